@@ -1,0 +1,5 @@
+pub mod Numbers
+pub mod Kinds
+pub mod Contents
+pub mod Format
+pub mod Writing

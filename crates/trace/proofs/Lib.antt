@@ -1,3 +1,6 @@
 pub mod Numbers
 pub mod Parsing
 pub mod Reading
+pub mod Over
+pub mod Rooms
+pub mod Trips

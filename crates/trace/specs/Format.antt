@@ -55,9 +55,9 @@ behind at (Err n) = at
 behind at (Ok None) = at
 behind at (Ok (Some (i, m))) = at + sizeOf m
 
-abbrev pub entryOf : Option Entry → Option (ℕ × Content)
-entryOf None = None
-entryOf (Some e) = Some (e .offset, contentOf (e .«record»))
+-- where an entry stands, and what it says
+abbrev pub entryOf : Entry → ℕ × Content
+entryOf e = (e .offset, contentOf (e .«record»))
 
 -- the place and the bytes of a record's key, if it has one
 abbrev pub keyOf : Record → Option (ℕ × List ℕ)

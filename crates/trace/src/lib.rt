@@ -2,3 +2,5 @@
 pub mod kind;
 pub mod reader;
 pub mod records;
+pub mod round;
+pub mod writer;

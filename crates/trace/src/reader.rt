@@ -114,7 +114,7 @@ fn decoded<'a>(kind: Kind, body: &'a [u8], start: usize) -> Record<'a>
 
 // What stands at `offset` of the trace: a record, nothing at the end, or a refusal.
 pub fn entry_at<'a>(trace: &'a [u8], offset: usize) -> Result<Option<Entry<'a>>, Refusal>
-    ensures answer { λ r. ⌜ shown entryOf r ≡ parse (now (trace .entry)) offset ⌝ }
+    ensures answer { λ r. ⌜ shown (mapped entryOf) r ≡ parse (now (trace .entry)) offset ⌝ }
     ensures stands { λ r. ⌜ Standing (now (trace .entry)) r ⌝ }
 {
     if offset >= trace.len() {
@@ -154,7 +154,7 @@ impl<'a> Reader<'a> {
 
     // The next record, none at the end. The reader moves behind the record, and stays where it is refused.
     pub fn next_entry(&mut self) -> Result<Option<Entry<'a>>, Refusal>
-        ensures answer { λ r. ⌜ shown entryOf r ≡ parse (now (now (self .entry) .trace)) (now (self .entry) .offset) ⌝ }
+        ensures answer { λ r. ⌜ shown (mapped entryOf) r ≡ parse (now (now (self .entry) .trace)) (now (self .entry) .offset) ⌝ }
         ensures stands { λ r. ⌜ Standing (now (now (self .entry) .trace)) r ⌝ }
         ensures offset { λ r. ⌜ now (self .exit) .offset ≡ behind (now (self .entry) .offset) (parse (now (now (self .entry) .trace)) (now (self .entry) .offset)) ⌝ }
         ensures trace { λ _. ⌜ now (now (self .exit) .trace) ≡ now (now (self .entry) .trace) ⌝ }

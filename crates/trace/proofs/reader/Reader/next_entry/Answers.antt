@@ -1,10 +1,11 @@
 use mathlib.Core.Path.{_≡_, sym, ap, _∙_}
 use native.Mathlib.Omega.{arith}
+use Rattle.std.specs.Options.{mapped}
 use Rattle.std.specs.declared.option.Option.{Option}
 use Rattle.std.specs.declared.result.Result.the-variants.{Ok}
 use Rattle.trace.specs.declared.records.Entry.{Entry}
 use Rattle.trace.specs.Contents.{contentOf}
-use Rattle.trace.specs.Format.{Found, entryOf}
+use Rattle.trace.specs.Format.{entryOf}
 use Rattle.trace.proofs.Parsing.{parse-within}
 use Rattle.trace.proofs.reader.Reader.next_entry.Needs as need
 
@@ -13,6 +14,6 @@ ghost-self c =
     let bs = c .args .self .now .trace .now in
     let at = c .args .self .now .offset in
     let entry = c .in-Some .entry in
-    let e = sym (c .in-Continue-found .ensures tt .answer) ∙ ap (λ (x : Option Entry). Ok (entryOf x)) (c .in-Some .is) in
+    let e = sym (c .in-Continue-found .ensures tt .answer) ∙ ap (λ (x : Option Entry). Ok (mapped entryOf x)) (c .in-Some .is) in
     let w = parse-within bs at (entry .offset) (contentOf (entry .«record»)) e in
     (omega (arith, w), tt)

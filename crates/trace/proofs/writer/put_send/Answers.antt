@@ -1,0 +1,14 @@
+use native.Mathlib.Omega.{arith}
+use Prim.Native.Nat.{_≤_, _+_}
+use mathlib.Core.Path.{_≡_}
+use borrow.Author.Needs.{needs}
+use lib.ListN.{length}
+use Rattle.trace.proofs.Over.{more}
+use Rattle.trace.proofs.writer.put_send.Needs as need
+
+pub returns : need.returns
+returns c =
+    let h : c .args .place ≤ length (c .args .buffer .now) = omega arith in
+    record {
+    place = search needs;
+    after = more (more (c .put-origin-behind-raw .ensures .after) (c .put-origin-behind-raw .ensures .place) h (c .put-behind-to .ensures .after)) (omega arith) h (c .put-u32 .ensures .after) }

@@ -1,0 +1,35 @@
+// The round trips: a record that was written reads back as it was, and one that was read is written as it stood.
+ghost use mathlib.Core.Path.{_≡_};
+ghost use Rattle.std.specs.Vec.{made};
+ghost use Rattle.stamps.specs.Refusals.{shown};
+ghost use Rattle.trace.specs.Contents.{contentOf};
+ghost use Rattle.trace.specs.Format.{entryOf, parse, Stands};
+ghost use Rattle.trace.specs.Writing.{written, reread, copiedTo, copied};
+use crate::reader::entry_at;
+use crate::records::Entry;
+use crate::records::Record;
+use stamps::refusal::Refusal;
+
+// Writes the record over the buffer from `place` on, and answers what the reader finds there.
+pub fn write_and_read<'b>(record: &Record, buffer: &'b mut [u8], place: usize) -> Result<Entry<'b>, Refusal>
+    ensures answer { λ r. ⌜ shown entryOf r ≡ reread (contentOf (now («record» .entry))) place (now (buffer .entry)) ⌝ }
+    ensures stands { λ r. ⌜ made r (λ e. Stands (written (contentOf (now («record» .entry))) place (now (buffer .entry))) e) ⌝ }
+{
+    record.write_to(buffer, place)?;
+    let Some(entry) = entry_at(buffer, place)? else {
+        unreachable()
+    };
+    Ok(entry)
+}
+
+// Copies the record that stands at `offset` of the trace over the buffer from `place` on, and answers the
+// place behind it; none at the end of the trace.
+pub fn copy_record(trace: &[u8], offset: usize, buffer: &mut [u8], place: usize) -> Result<Option<usize>, Refusal>
+    ensures answer { λ r. ⌜ shown (λ n. n) r ≡ copiedTo (parse (now (trace .entry)) offset) place (now (buffer .entry)) ⌝ }
+    ensures buffer { λ _. ⌜ now (buffer .exit) ≡ copied (now (trace .entry)) (parse (now (trace .entry)) offset) place (now (buffer .entry)) ⌝ }
+{
+    let Some(entry) = entry_at(trace, offset)? else {
+        return Ok(None);
+    };
+    Ok(Some(entry.record.write_to(buffer, place)?))
+}

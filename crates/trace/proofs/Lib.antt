@@ -4,3 +4,4 @@ pub mod Reading
 pub mod Over
 pub mod Rooms
 pub mod Trips
+pub mod Whole

@@ -127,11 +127,11 @@ pub read-back : (m : Content) (place n : ℕ) (was after : List ℕ) → _≡_ {
     → (parse after place ≡ Ok (Some (place, m))) × (reread m place was ≡ Ok (place, m))
 read-back m place n was after e w s = go (room place (sizeOf m) was) refl
   where
-  go : (b : Bool) → room place (sizeOf m) was ≡ b → (parse after place ≡ Ok (Some (place, m))) × (reread m place was ≡ Ok (place, m))
-  go true q =
-      let h : place ≤ length was = omega (arith, leb-true (place + sizeOf m) (length was) q) in
-      let a : after ≡ over place (encode m) was = w ∙ ap (λ (b : Bool). cond b (over place (encode m) was) was) q in
-      (ap (λ (bs : List ℕ). parse bs place) a ∙ read-over m place was s h, ap (λ (b : Bool). cond b (Ok (place, m)) (Err 19)) q)
-  go false q =
-      let f : _≡_ {A = Result ℕ ℕ} (Ok n) (Err 19) = e ∙ ap (λ (b : Bool). cond b (Ok (place + sizeOf m)) (Err 19)) q in
-      let z : _≡_ {A = ℕ} 0 1 = cc in absurd (omega arith)
+    go : (b : Bool) → room place (sizeOf m) was ≡ b → (parse after place ≡ Ok (Some (place, m))) × (reread m place was ≡ Ok (place, m))
+    go true q =
+        let h : place ≤ length was = omega (arith, leb-true (place + sizeOf m) (length was) q) in
+        let a : after ≡ over place (encode m) was = w ∙ ap (λ (b : Bool). cond b (over place (encode m) was) was) q in
+        (ap (λ (bs : List ℕ). parse bs place) a ∙ read-over m place was s h, ap (λ (b : Bool). cond b (Ok (place, m)) (Err 19)) q)
+    go false q =
+        let f : _≡_ {A = Result ℕ ℕ} (Ok n) (Err 19) = e ∙ ap (λ (b : Bool). cond b (Ok (place + sizeOf m)) (Err 19)) q in
+        let z : _≡_ {A = ℕ} 0 1 = cc in absurd (omega arith)

@@ -4,3 +4,4 @@ pub mod Contents
 pub mod Ranges
 pub mod Format
 pub mod Writing
+pub mod Whole

@@ -88,7 +88,9 @@ fn decoded<'a>(kind: Kind, body: &'a [u8], start: usize) -> Record<'a>
             raw: u64_at(body, 1),
             message: u32_at(body, 9),
         },
-        Kind::Loss => Record::Loss { message: u32_at(body, 0) },
+        Kind::Loss => Record::Loss {
+            message: u32_at(body, 0),
+        },
         Kind::PutPoint => Record::PutPoint {
             node: body[0],
             raw: u64_at(body, 1),

@@ -15,15 +15,50 @@ pub struct KeyField<'a, const N: usize> {
 pub enum Record<'a> {
     // How many nodes there are, their key kind (0 for points, 1 for tags), how far a message's time may
     // lead the reading of the node that receives it, and the largest step back of a clock; both in milliseconds.
-    SetUp { nodes: u8, key_kind: u8, lead: u32, backstep: u32 },
-    Note { node: u8, raw: u64 },
-    Send { node: u8, raw: u64, to: u8, message: u32 },
-    Receipt { node: u8, raw: u64, message: u32 },
-    Loss { message: u32 },
-    PutPoint { node: u8, raw: u64, key: KeyField<'a, 4>, value: i32 },
-    PutTag { node: u8, raw: u64, key: KeyField<'a, 16>, value: i32 },
-    ReadPoint { at: u64, key: KeyField<'a, 4> },
-    ReadTag { at: u64, key: KeyField<'a, 16> },
+    SetUp {
+        nodes: u8,
+        key_kind: u8,
+        lead: u32,
+        backstep: u32,
+    },
+    Note {
+        node: u8,
+        raw: u64,
+    },
+    Send {
+        node: u8,
+        raw: u64,
+        to: u8,
+        message: u32,
+    },
+    Receipt {
+        node: u8,
+        raw: u64,
+        message: u32,
+    },
+    Loss {
+        message: u32,
+    },
+    PutPoint {
+        node: u8,
+        raw: u64,
+        key: KeyField<'a, 4>,
+        value: i32,
+    },
+    PutTag {
+        node: u8,
+        raw: u64,
+        key: KeyField<'a, 16>,
+        value: i32,
+    },
+    ReadPoint {
+        at: u64,
+        key: KeyField<'a, 4>,
+    },
+    ReadTag {
+        at: u64,
+        key: KeyField<'a, 16>,
+    },
 }
 
 impl Record<'_> {

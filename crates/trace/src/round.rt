@@ -11,7 +11,11 @@ use crate::records::Record;
 use stamps::refusal::Refusal;
 
 // Writes the record over the buffer from `place` on, and answers what the reader finds there.
-pub fn write_and_read<'b>(record: &Record, buffer: &'b mut [u8], place: usize) -> Result<Entry<'b>, Refusal>
+pub fn write_and_read<'b>(
+    record: &Record,
+    buffer: &'b mut [u8],
+    place: usize,
+) -> Result<Entry<'b>, Refusal>
     ensures answer { λ r. ⌜ shown entryOf r ≡ reread (contentOf (now («record» .entry))) place (now (buffer .entry)) ⌝ }
     ensures stands { λ r. ⌜ made r (λ e. Stands (written (contentOf (now («record» .entry))) place (now (buffer .entry))) e) ⌝ }
 {
@@ -24,7 +28,12 @@ pub fn write_and_read<'b>(record: &Record, buffer: &'b mut [u8], place: usize) -
 
 // Copies the record that stands at `offset` of the trace over the buffer from `place` on, and answers the
 // place behind it; none at the end of the trace.
-pub fn copy_record(trace: &[u8], offset: usize, buffer: &mut [u8], place: usize) -> Result<Option<usize>, Refusal>
+pub fn copy_record(
+    trace: &[u8],
+    offset: usize,
+    buffer: &mut [u8],
+    place: usize,
+) -> Result<Option<usize>, Refusal>
     ensures answer { λ r. ⌜ shown (λ n. n) r ≡ copiedTo (parse (now (trace .entry)) offset) place (now (buffer .entry)) ⌝ }
     ensures buffer { λ _. ⌜ now (buffer .exit) ≡ copied (now (trace .entry)) (parse (now (trace .entry)) offset) place (now (buffer .entry)) ⌝ }
 {

@@ -47,7 +47,14 @@ fn put_u64(buffer: &mut [u8], place: usize, number: u64) -> usize
     put(buffer, place, &number.to_be_bytes())
 }
 
-fn put_set_up(buffer: &mut [u8], place: usize, nodes: u8, key_kind: u8, lead: u32, backstep: u32) -> usize
+fn put_set_up(
+    buffer: &mut [u8],
+    place: usize,
+    nodes: u8,
+    key_kind: u8,
+    lead: u32,
+    backstep: u32,
+) -> usize
     requires { ⌜ place + 10 ≤ length (now buffer) ⌝ }
     ensures place { λ r. ⌜ r ≡ place + 10 ⌝ }
     ensures after { λ _. ⌜ Wrote place (nodes ∷ «key_kind» ∷ (bytesOf 4 lead ++ bytesOf 4 backstep)) (now (buffer .entry)) (now (buffer .exit)) ⌝ }
@@ -114,16 +121,36 @@ fn put_body(record: &Record, buffer: &mut [u8], place: usize) -> usize
     ensures ranges { λ _. ⌜ InRange (contentOf (now («record» .entry))) ⌝ }
 {
     match *record {
-        Record::SetUp { nodes, key_kind, lead, backstep } => put_set_up(buffer, place, nodes, key_kind, lead, backstep),
+        Record::SetUp {
+            nodes,
+            key_kind,
+            lead,
+            backstep,
+        } => put_set_up(buffer, place, nodes, key_kind, lead, backstep),
         Record::Note { node, raw } => put_origin(buffer, place, node, raw),
-        Record::Send { node, raw, to, message } => put_send(buffer, place, node, raw, to, message),
+        Record::Send {
+            node,
+            raw,
+            to,
+            message,
+        } => put_send(buffer, place, node, raw, to, message),
         Record::Receipt { node, raw, message } => put_receipt(buffer, place, node, raw, message),
         Record::Loss { message } => put_u32(buffer, place, message),
-        Record::PutPoint { node, raw, key, value } => {
+        Record::PutPoint {
+            node,
+            raw,
+            key,
+            value,
+        } => {
             let bytes = key.bytes;
             put_version(buffer, place, node, raw, bytes, value)
         }
-        Record::PutTag { node, raw, key, value } => {
+        Record::PutTag {
+            node,
+            raw,
+            key,
+            value,
+        } => {
             let bytes = key.bytes;
             put_version(buffer, place, node, raw, bytes, value)
         }

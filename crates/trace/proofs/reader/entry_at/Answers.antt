@@ -28,7 +28,9 @@ returns c =
     let ks : k ≡ kindOf m = sym (ap kindOf d ∙ kind-decoded k (drop (at + 1) bs)) in
     let u : Bytes bs = λ j. c .typed .trace j .fits in
     record {
-    answer = ap (λ (x : Content). Ok (Some (at, x))) d ∙ sym (parse-found bs at k lt e l);
-    stands = record {
-    bytes = own-bytes bs at k m lt e l u d;
-    key = c .decoded-record .ensures .key ∙ ap (keyWithin k (at + 1)) b ∙ key-within k at bs ∙ ap (λ (j : Kind). keyPart j at bs) ks } }
+      answer = ap (λ (x : Content). Ok (Some (at, x))) d ∙ sym (parse-found bs at k lt e l);
+      stands = record {
+        bytes = own-bytes bs at k m lt e l u d;
+        key = c .decoded-record .ensures .key ∙ ap (keyWithin k (at + 1)) b ∙ key-within k at bs ∙ ap (λ (j : Kind). keyPart j at bs) ks;
+      };
+    }

@@ -20,9 +20,10 @@ returns-in-Break-write-to c =
     let entry = c .in-Some .entry in
     let w = c .in-Break-write-to .ensures tt in
     let e : parse bs (c .args .offset) ≡ Ok (Some (entryOf entry)) =
-        sym (c .in-Continue-entry .ensures tt .answer) ∙ ap (λ (x : Option Entry). Ok (mapped entryOf x)) (c .in-Some .is) in
+    sym (c .in-Continue-entry .ensures tt .answer) ∙ ap (λ (x : Option Entry). Ok (mapped entryOf x)) (c .in-Some .is) in
     let r = copy-refused bs (entry .offset) place (numberOf (c .in-Break-write-to .field-0 .0)) (contentOf (entry .«record»)) was (c .write-to .last .buffer) (w .answer) (w .buffer) in
     let p = err-from-errBy (c .from-residual-in-Break-write-to .result) (c .from-residual-in-Break-write-to .ensures .1) in
     rw (p .1, p .2) record {
-    answer = r .0 ∙ ap (λ (f : Found). copiedTo f place was) (sym e);
-    buffer = r .1 ∙ ap (λ (f : Found). copied bs f place was) (sym e) }
+      answer = r .0 ∙ ap (λ (f : Found). copiedTo f place was) (sym e);
+      buffer = r .1 ∙ ap (λ (f : Found). copied bs f place was) (sym e);
+    }

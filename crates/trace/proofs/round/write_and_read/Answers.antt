@@ -30,8 +30,9 @@ returns c =
     let entry = c .in-Some .entry in
     let t = read-back m (c .args .place) (c .in-Continue-write-to .field-0) (c .args .buffer .now) (c .write-to .last .buffer) (w .answer) (w .buffer) (w .ranges) in
     let e : _≡_ {A = Found} (Ok (Some (entryOf entry))) (Ok (Some (c .args .place, m))) =
-        ap (λ (x : Option Entry). Ok (mapped entryOf x)) (sym (c .in-Some .is)) ∙ c .in-Continue-entry .ensures tt .answer ∙ t .0 in
+    ap (λ (x : Option Entry). Ok (mapped entryOf x)) (sym (c .in-Some .is)) ∙ c .in-Continue-entry .ensures tt .answer ∙ t .0 in
     let p : _≡_ {A = ℕ × Content} (entryOf entry) (c .args .place, m) = cc e in
     record {
-    answer = ap Ok p ∙ sym (t .1);
-    stands = subst (λ (bs : List ℕ). Stands bs entry) (w .buffer) (subst (λ (x : Option Entry). Standing (c .write-to .last .buffer) (Ok x)) (c .in-Some .is) (c .in-Continue-entry .ensures tt .stands)) }
+      answer = ap Ok p ∙ sym (t .1);
+      stands = subst (λ (bs : List ℕ). Stands bs entry) (w .buffer) (subst (λ (x : Option Entry). Standing (c .write-to .last .buffer) (Ok x)) (c .in-Some .is) (c .in-Continue-entry .ensures tt .stands));
+    }

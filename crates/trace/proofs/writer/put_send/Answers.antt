@@ -10,5 +10,6 @@ pub returns : need.returns
 returns c =
     let h : c .args .place ≤ length (c .args .buffer .now) = omega arith in
     record {
-    place = search needs;
-    after = more (more (c .put-origin-behind-raw .ensures .after) (c .put-origin-behind-raw .ensures .place) h (c .put-behind-to .ensures .after)) (omega arith) h (c .put-u32 .ensures .after) }
+      place = search needs;
+      after = more (more (c .put-origin-behind-raw .ensures .after) (c .put-origin-behind-raw .ensures .place) h (c .put-behind-to .ensures .after)) (omega arith) h (c .put-u32 .ensures .after);
+    }

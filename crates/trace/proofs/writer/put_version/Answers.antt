@@ -14,5 +14,6 @@ returns c =
     let h : c .args .place ≤ length (c .args .buffer .now) = omega arith in
     let f : SFits w32 (c .args .value) = search needs in
     record {
-    place = search needs;
-    after = more (more (c .put-origin-behind-raw .ensures .after) (c .put-origin-behind-raw .ensures .place) h (c .put-behind-key .ensures .after)) (omega arith) h (simp toZ-ofZ at (c .put-i32 .ensures .after)) }
+      place = search needs;
+      after = more (more (c .put-origin-behind-raw .ensures .after) (c .put-origin-behind-raw .ensures .place) h (c .put-behind-key .ensures .after)) (omega arith) h (simp toZ-ofZ at (c .put-i32 .ensures .after));
+    }

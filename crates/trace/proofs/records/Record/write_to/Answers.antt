@@ -20,6 +20,7 @@ returns c =
     let k : c .byte .result ≡ byteOf (kindOf m) = c .byte .ensures ∙ ap byteOf (c .kind .ensures) in
     let w = more (c .put-behind-kind .ensures .after) (c .put-behind-kind .ensures .place) (omega arith) (c .put-body .ensures .after) in
     record {
-    answer = ap Ok (omega arith) ∙ sym (written-to-room m place was h);
-    buffer = w .is ∙ ap (λ (b : ℕ). over place (b ∷ bodyOf m) was) k ∙ sym (written-room m place was h);
-    ranges = c .put-body .ensures .ranges }
+      answer = ap Ok (omega arith) ∙ sym (written-to-room m place was h);
+      buffer = w .is ∙ ap (λ (b : ℕ). over place (b ∷ bodyOf m) was) k ∙ sym (written-room m place was h);
+      ranges = c .put-body .ensures .ranges;
+    }

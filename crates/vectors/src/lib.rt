@@ -1,0 +1,3 @@
+// Known traces, and what must come of them.
+#[cfg(test)]
+mod tests;

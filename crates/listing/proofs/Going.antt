@@ -1,6 +1,6 @@
 -- What is known between two records of a trace that is being listed.
-use mathlib.Core.Path.{_≡_, refl, sym, ap, _∙_}
-use mathlib.Core.List.{List, [], _∷_, _++_, append-assoc}
+use mathlib.Core.Path.{_≡_, sym, ap, _∙_}
+use mathlib.Core.List.{List, _++_, append-assoc}
 use Prim.Native.Nat.{ℕ, _+_, _≤_}
 use native.Mathlib.Nat.{zero-add}
 use native.Mathlib.Omega.{arith}
@@ -9,7 +9,7 @@ use Rattle.std.specs.declared.option.Option.the-variants.{Some}
 use Rattle.std.specs.declared.result.Result.the-variants.{Ok}
 use Rattle.trace.specs.Contents.{Content, sizeOf}
 use Rattle.trace.specs.Format.{parse}
-use Rattle.trace.specs.Whole.{Whole, then, whole}
+use Rattle.trace.specs.Whole.{Whole, whole}
 use Rattle.trace.proofs.Whole.{rest, whole-rest, rest-record}
 use Rattle.listing.specs.declared.line.Line.the-variants.{Accepted}
 use Rattle.listing.specs.Lines.{wordOf, lineText}

@@ -3,7 +3,7 @@ use Prim.Native.Nat.{ℕ, _+_}
 use mathlib.Core.Bool.{cond}
 use mathlib.Core.List.{List, [], _∷_, _++_}
 use lib.ListN.{length}
-use lib.Dec.{ltb}
+use lib.Dec.{leb}
 use Rattle.trace.specs.Contents.{Content}
 use Rattle.trace.specs.Whole.{Whole, Ending, complete, refused, whole}
 use Rattle.listing.specs.declared.line.Line.the-variants.{Accepted, TooLong}
@@ -29,4 +29,4 @@ bodyText w = recordLines 1 (w .records) ++ endingLines (w .ending)
 
 -- the text for these bytes
 abbrev pub textOf : List ℕ → List ℕ
-textOf bs = cond (ltb 65536 (length bs)) (fed (lineText TooLong)) (bodyText (whole bs) ++ fed (endText (length (whole bs .records)) 0))
+textOf bs = cond (leb (length bs) 65536) (bodyText (whole bs) ++ fed (endText (length (whole bs .records)) 0)) (fed (lineText TooLong))

@@ -1,10 +1,11 @@
 // The text of a listing.
 ghost use mathlib.Core.Path.{_≡_};
 ghost use mathlib.Core.List.{_++_};
+ghost use lib.Dec.{leb};
 ghost use lib.ListN.{length};
 ghost use Rattle.std.specs.Of.String.{string-bytes};
 ghost use Rattle.std.specs.Vec.{made};
-ghost use Rattle.trace.specs.Whole.{whole};
+ghost use Rattle.trace.specs.Whole.{whole, OneWay};
 ghost use Rattle.listing.specs.Lines.{lineText};
 ghost use Rattle.listing.specs.Text.{fed, bodyText, textOf};
 use crate::line::Line;
@@ -55,12 +56,21 @@ fn add_records(text: &mut String, trace: &[u8]) -> Result<u64, fmt::Error>
     }
 }
 
+// Whether the trace is short enough to be listed. Every trace splits into records in one way.
+fn is_listed(trace: &[u8]) -> bool
+    ensures value { λ r. ⌜ r ≡ leb (length (now (trace .entry))) 65536 ⌝ }
+    ensures records { λ _. ⌜ OneWay (now (trace .entry)) ⌝ }
+{
+    trace.get(LONGEST).is_none()
+}
+
 // The whole listing of a trace. The only failure is want of memory.
 pub fn text_of(heap: Global, trace: &[u8]) -> Result<String, fmt::Error>
-    ensures { λ r. ⌜ made r (λ text. string-bytes text ≡ textOf (now (trace .entry))) ⌝ }
+    ensures text { λ r. ⌜ made r (λ text. string-bytes text ≡ textOf (now (trace .entry))) ⌝ }
+    ensures records { λ _. ⌜ OneWay (now (trace .entry)) ⌝ }
 {
     let mut text = String::new(heap);
-    if trace.len() > LONGEST {
+    if !is_listed(trace) {
         add(&mut text, Line::TooLong)?;
         return Ok(text);
     }

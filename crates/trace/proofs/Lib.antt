@@ -5,3 +5,4 @@ pub mod Over
 pub mod Rooms
 pub mod Trips
 pub mod Whole
+pub mod OneWay

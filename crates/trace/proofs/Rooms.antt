@@ -1,5 +1,5 @@
 -- What is written where there is room.
-use mathlib.Core.Path.{_≡_, refl, sym, ap, _∙_}
+use mathlib.Core.Path.{_≡_, ap}
 use mathlib.Core.Bool.{Bool, true, false, cond}
 use mathlib.Core.List.{List}
 use Prim.Native.Nat.{ℕ, _+_, _≤_}
@@ -12,10 +12,8 @@ use Rattle.std.specs.declared.result.Result.the-variants.{Ok, Err}
 use Rattle.std.proofs.shelf.Tests.{le-leb}
 use Rattle.trace.specs.Contents.{Content, sizeOf, encode}
 use Rattle.trace.specs.Format.{part}
+use Rattle.trace.proofs.Parsing.{cond-yes}
 use Rattle.trace.specs.Writing.{over, room, writtenTo, written, copiedTo, copied}
-
-cond-yes : {X : Type 0} (b : Bool) (x y : X) → b ≡ true → cond b x y ≡ x
-cond-yes b x y e = rw e refl
 
 pub written-to-room : (m : Content) (place : ℕ) (buffer : List ℕ) → place + sizeOf m ≤ length buffer → writtenTo m place buffer ≡ Ok (place + sizeOf m)
 written-to-room m place buffer h = cond-yes _ _ _ (le-leb (place + sizeOf m) (length buffer) h)

@@ -1,6 +1,5 @@
 -- The ranges that the types of a record's fields give.
-use Prim.Native.Nat.{ℕ, _^_, _<_}
-use mathlib.Core.List.{List}
+use Prim.Native.Nat.{_^_, _<_}
 use mathlib.Core.Path.{_≡_}
 use lib.ListN.{length}
 use mir.Val.{SFits}

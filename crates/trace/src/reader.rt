@@ -1,7 +1,7 @@
 // Reads the records of a trace.
 ghost use mathlib.Core.Path.{_≡_};
-ghost use Prim.Native.Nat.{ℕ, _+_, _^_, _<_, _≤_};
-ghost use lib.ListN.{length, take, drop};
+ghost use Prim.Native.Nat.{_+_, _^_, _<_, _≤_};
+ghost use lib.ListN.{length};
 ghost use Rattle.std.specs.Options.{mapped};
 ghost use Rattle.stamps.specs.Refusals.{shown};
 ghost use Rattle.trace.specs.Numbers.{unsigned, signed};

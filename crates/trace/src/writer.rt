@@ -1,6 +1,6 @@
 // Writes records into a lent buffer. Each function writes from `place` on and answers the place behind.
 ghost use mathlib.Core.Path.{_≡_};
-ghost use Prim.Native.Nat.{ℕ, _+_, _≤_};
+ghost use Prim.Native.Nat.{_+_, _≤_};
 ghost use mathlib.Core.List.{_∷_, _++_};
 ghost use lib.ListN.{length};
 ghost use Rattle.std.specs.Vec.{made};

@@ -8,7 +8,7 @@ use Rattle.std.specs.Of.String.{string-bytes}
 use Rattle.std.specs.declared.option.Option.the-variants.{Some}
 use Rattle.std.specs.declared.result.Result.the-variants.{Ok}
 use Rattle.trace.specs.Contents.{contentOf, sizeOf}
-use Rattle.trace.specs.Format.{Found, parse, behind, entryOf}
+use Rattle.trace.specs.Format.{parse, behind, entryOf}
 use Rattle.listing.specs.declared.line.Line.the-variants.{Accepted}
 use Rattle.listing.specs.declared.line.Word.{Word}
 use Rattle.listing.specs.Lines.{wordOf, lineText}

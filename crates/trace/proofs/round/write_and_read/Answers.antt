@@ -2,16 +2,14 @@ use mathlib.Core.Path.{_≡_, sym, ap, subst, _∙_}
 use mathlib.Core.List.{List}
 use Prim.Native.Nat.{ℕ}
 use native.Mathlib.Omega.{arith}
-use borrow.Author.Needs.{needs}
 use Rattle.std.specs.Options.{mapped}
 use Rattle.std.specs.declared.option.Option.{Option}
 use Rattle.std.specs.declared.option.Option.the-variants.{Some}
-use Rattle.std.specs.declared.result.Result.{Result}
 use Rattle.std.specs.declared.result.Result.the-variants.{Ok, Err}
 use Rattle.stamps.specs.Refusals.{numberOf}
 use Rattle.trace.specs.declared.records.Entry.{Entry}
 use Rattle.trace.specs.Contents.{Content, contentOf}
-use Rattle.trace.specs.Format.{Found, Stands, Standing, entryOf, parse}
+use Rattle.trace.specs.Format.{Found, Stands, Standing, entryOf}
 use Rattle.trace.proofs.Trips.{read-back}
 use Rattle.trace.proofs.round.write_and_read.Needs as need
 

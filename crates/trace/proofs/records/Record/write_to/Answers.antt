@@ -1,12 +1,12 @@
 use mathlib.Core.Path.{_≡_, sym, ap, _∙_}
-use mathlib.Core.List.{List, [], _∷_}
+use mathlib.Core.List.{_∷_}
 use Prim.Native.Nat.{ℕ, _+_, _≤_}
 use native.Mathlib.Omega.{arith}
 use lib.ListN.{length}
 use Rattle.std.specs.declared.result.Result.the-variants.{Ok}
 use Rattle.trace.specs.Kinds.{byteOf}
-use Rattle.trace.specs.Contents.{contentOf, kindOf, bodyOf, sizeOf, encode}
-use Rattle.trace.specs.Writing.{over, Wrote}
+use Rattle.trace.specs.Contents.{contentOf, kindOf, bodyOf, sizeOf}
+use Rattle.trace.specs.Writing.{over}
 use Rattle.trace.proofs.Over.{more}
 use Rattle.trace.proofs.Rooms.{written-to-room, written-room}
 use Rattle.trace.proofs.records.Record.write_to.Needs as need

@@ -3,7 +3,7 @@ ghost use mathlib.Core.Path.{_≡_};
 ghost use Rattle.stamps.specs.Refusals.{numberOf};
 
 // The refusals in the order of their numbers; the specification says what each means.
-#[derive(Clone, Copy)]
+#[derive(Clone, Copy, Debug)]
 pub enum Refusal {
     UnknownKind,
     CutShort,

@@ -10,20 +10,28 @@ use crate::records::Entry;
 use crate::records::Record;
 use stamps::refusal::Refusal;
 
+// A record that was read back, and the buffer that it stands in.
+#[derive(Clone, Copy)]
+pub struct ReadBack<'b> {
+    pub entry: Entry<'b>,
+    pub buffer: &'b [u8],
+}
+
 // Writes the record over the buffer from `place` on, and answers what the reader finds there.
 pub fn write_and_read<'b>(
     record: &Record,
     buffer: &'b mut [u8],
     place: usize,
-) -> Result<Entry<'b>, Refusal>
-    ensures answer { λ r. ⌜ shown entryOf r ≡ reread (contentOf (now («record» .entry))) place (now (buffer .entry)) ⌝ }
-    ensures stands { λ r. ⌜ made r (λ e. Stands (written (contentOf (now («record» .entry))) place (now (buffer .entry))) e) ⌝ }
+) -> Result<ReadBack<'b>, Refusal>
+    ensures answer { λ r. ⌜ shown (λ back. entryOf (back .entry)) r ≡ reread (contentOf (now («record» .entry))) place (now (buffer .entry)) ⌝ }
+    ensures buffer { λ r. ⌜ made r (λ back. now (back .buffer) ≡ written (contentOf (now («record» .entry))) place (now (buffer .entry))) ⌝ }
+    ensures stands { λ r. ⌜ made r (λ back. Stands (now (back .buffer)) (back .entry)) ⌝ }
 {
     record.write_to(buffer, place)?;
     let Some(entry) = entry_at(buffer, place)? else {
         unreachable()
     };
-    Ok(entry)
+    Ok(ReadBack { entry, buffer })
 }
 
 // Copies the record that stands at `offset` of the trace over the buffer from `place` on, and answers the

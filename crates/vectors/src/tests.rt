@@ -1,5 +1,6 @@
 use listing::report::LONGEST;
 use listing::report::text_of;
+use stamps::refusal::RefusalDebug;
 use std::alloc::AllocError;
 use std::alloc::Global;
 use std::test::*;
@@ -8,26 +9,7 @@ use trace::records::KeyField;
 use trace::records::Record;
 
 // A put by node 0 at raw 1000: point 7 is set to -9.000.
-const PUT: [u8; 18] = [
-    5,
-    0,
-    0,
-    0,
-    0,
-    0,
-    0,
-    0,
-    3,
-    0xe8,
-    0,
-    0,
-    0,
-    7,
-    0xff,
-    0xff,
-    0xdc,
-    0xd8,
-];
+const PUT: &[u8; 18] = b"\x05\x00\x00\x00\x00\x00\x00\x00\x03\xe8\x00\x00\x00\x07\xff\xff\xdc\xd8";
 
 // Each kind's byte, the length of its body and its line.
 const KINDS: [(u8, usize, &str); 9] = [
@@ -65,7 +47,7 @@ fn put_is_written() -> Result<(), Fail> {
         value: -9000,
     };
     let mut buffer = [0xaa; 20];
-    let behind = put.write_to(&mut buffer, 1).ok().ok_or("refused")?;
+    let behind = put.write_to(&mut buffer, 1)?;
     check_eq(behind, 19)?;
     check_eq(&buffer[1..19], &PUT[0..18])?;
     check_eq(buffer[0], 0xaa)?;
@@ -74,8 +56,7 @@ fn put_is_written() -> Result<(), Fail> {
 
 #[test]
 fn put_is_read() -> Result<(), Fail> {
-    let found = entry_at(&PUT, 0).ok().ok_or("refused")?;
-    let entry = found.ok_or("none")?;
+    let entry = entry_at(PUT, 0)?.ok_or("none")?;
     match entry.record {
         Record::PutPoint {
             node,

@@ -32,5 +32,6 @@ returns c =
     let p : _≡_ {A = ℕ × Content} (entryOf entry) (c .args .place, m) = cc e in
     record {
       answer = ap Ok p ∙ sym (t .1);
-      stands = subst (λ (bs : List ℕ). Stands bs entry) (w .buffer) (subst (λ (x : Option Entry). Standing (c .write-to .last .buffer) (Ok x)) (c .in-Some .is) (c .in-Continue-entry .ensures tt .stands));
+      buffer = w .buffer;
+      stands = subst (λ (x : Option Entry). Standing (c .write-to .last .buffer) (Ok x)) (c .in-Some .is) (c .in-Continue-entry .ensures tt .stands);
     }

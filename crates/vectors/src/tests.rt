@@ -9,7 +9,7 @@ use trace::records::KeyField;
 use trace::records::Record;
 
 // A put by node 0 at raw 1000: point 7 is set to -9.000.
-const PUT: &[u8; 18] = b"\x05\x00\x00\x00\x00\x00\x00\x00\x03\xe8\x00\x00\x00\x07\xff\xff\xdc\xd8";
+const PUT: [u8; 18] = *b"\x05\x00\x00\x00\x00\x00\x00\x00\x03\xe8\x00\x00\x00\x07\xff\xff\xdc\xd8";
 
 // Each kind's byte, the length of its body and its line.
 const KINDS: [(u8, usize, &str); 9] = [
@@ -56,7 +56,7 @@ fn put_is_written() -> Result<(), Fail> {
 
 #[test]
 fn put_is_read() -> Result<(), Fail> {
-    let entry = entry_at(PUT, 0)?.ok_or("none")?;
+    let entry = entry_at(&PUT, 0)?.ok_or("none")?;
     match entry.record {
         Record::PutPoint {
             node,

@@ -11,15 +11,15 @@ use Rattle.trace.specs.Kinds.{byteOf, bodyLen}
 
 -- the fields of a record in the order of its body; a key is its bytes
 pub data Content : Type 0 where
-  set-up : ℕ → ℕ → ℕ → ℕ → Content
-  note : ℕ → ℕ → Content
-  send : ℕ → ℕ → ℕ → ℕ → Content
-  receipt : ℕ → ℕ → ℕ → Content
-  loss : ℕ → Content
-  put-point : ℕ → ℕ → List ℕ → ℤ → Content
-  put-tag : ℕ → ℕ → List ℕ → ℤ → Content
-  read-point : ℕ → List ℕ → Content
-  read-tag : ℕ → List ℕ → Content
+  set-up : (nodes keyKind lead backstep : ℕ) → Content
+  note : (node raw : ℕ) → Content
+  send : (node raw to message : ℕ) → Content
+  receipt : (node raw message : ℕ) → Content
+  loss : (message : ℕ) → Content
+  put-point : (node raw : ℕ) (key : List ℕ) (value : ℤ) → Content
+  put-tag : (node raw : ℕ) (key : List ℕ) (value : ℤ) → Content
+  read-point : (at : ℕ) (key : List ℕ) → Content
+  read-tag : (at : ℕ) (key : List ℕ) → Content
 
 -- what a record of the code says
 abbrev pub contentOf : Record → Content

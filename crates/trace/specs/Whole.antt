@@ -13,7 +13,7 @@ use Rattle.trace.specs.Format.{Found, parse, behind}
 -- a trace is complete if its last record ends it; else what stands at a place is refused with a number
 pub data Ending : Type 0 where
   complete : Ending
-  refused : ℕ → ℕ → Ending
+  refused : (number at : ℕ) → Ending
 
 pub record Whole : Type 0 where
   pub records : List Content

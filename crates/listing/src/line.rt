@@ -20,7 +20,7 @@ pub enum Word {
 }
 
 impl Word {
-    pub fn of_record(record: &Record) -> Word
+    pub fn from_record(record: &Record) -> Word
         ensures { λ r. ⌜ r ≡ wordOf (contentOf (now («record» .entry))) ⌝ }
     {
         match record {

@@ -37,7 +37,7 @@ fn add_records(text: &mut String, trace: &[u8]) -> Result<u64, fmt::Error>
         match reader.next_entry() {
             Ok(Some(entry)) => {
                 accepted += 1;
-                let word = Word::of_record(&entry.record);
+                let word = Word::from_record(&entry.record);
                 add(
                     text,
                     Line::Accepted {

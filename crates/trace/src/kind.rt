@@ -20,7 +20,7 @@ pub enum Kind {
 
 impl Kind {
     // The kind that this byte stands for, refused where there is none.
-    pub fn of_byte(byte: u8) -> Result<Kind, Refusal>
+    pub fn from_byte(byte: u8) -> Result<Kind, Refusal>
         ensures { λ r. ⌜ shown (λ k. k) r ≡ okOr (kindAt byte) 1 ⌝ }
     {
         match byte {

@@ -122,7 +122,7 @@ pub fn entry_at<'a>(trace: &'a [u8], offset: usize) -> Result<Option<Entry<'a>>,
     if offset >= trace.len() {
         return Ok(None);
     }
-    let kind = Kind::of_byte(trace[offset])?;
+    let kind = Kind::from_byte(trace[offset])?;
     let (_, body) = trace.split_at(offset + 1);
     if body.len() < kind.body_len() {
         return Err(Refusal::CutShort);

@@ -7,6 +7,8 @@ use std::test::*;
 use trace::reader::entry_at;
 use trace::records::KeyField;
 use trace::records::Record;
+use trace::round::copy_record;
+use trace::round::write_and_read;
 
 // A put by node 0 at raw 1000: point 7 is set to -9.000.
 const PUT: [u8; 18] = *b"\x05\x00\x00\x00\x00\x00\x00\x00\x03\xe8\x00\x00\x00\x07\xff\xff\xdc\xd8";
@@ -108,6 +110,28 @@ fn unknown_kind(rt: LibcRuntime) -> Result<(), Fail> {
 fn empty(rt: LibcRuntime) -> Result<(), Fail> {
     let listed = text_of(rt.alloc(), &[])?;
     check_eq(listed.as_str(), "end 0 0\n")
+}
+
+// A record of each kind, with a body of the bytes 1, 2, 3 and so on, is copied byte for byte, and read back from the copy.
+#[test]
+fn every_kind_round(rt: LibcRuntime) -> Result<(), Fail> {
+    for (kind, len, _) in KINDS {
+        let mut bytes = Vec::new(rt.alloc());
+        bytes.push(kind)?;
+        for i in 1..=len {
+            bytes.push((i % 256) as u8)?;
+        }
+        let mut buffer = [0xaa; 40];
+        let behind = copy_record(bytes.as_slice(), 0, &mut buffer, 3)?.ok_or("none")?;
+        check_eq(behind, len.saturating_add(4))?;
+        check_eq(buffer.get(3..behind).ok_or("short")?, bytes.as_slice())?;
+        let entry = entry_at(&buffer, 3)?.ok_or("none")?;
+        let mut second = [0xbb; 40];
+        let back = &write_and_read(&entry.record, &mut second, 3)?;
+        check_eq(back.entry.offset, 3)?;
+        check_eq(back.buffer.get(3..behind).ok_or("short")?, bytes.as_slice())?;
+    }
+    Ok(())
 }
 
 // As many losses as fill a trace of `len` bytes, and the bytes of kind that are left over.

@@ -37,7 +37,7 @@ loop-entry-again c =
     let e2 : parse bs at ≡ Ok (Some (entryOf entry)) = ap (λ (x : List ℕ). parse x at) (sym same) ∙ e in
     let h : at ≤ length bs = omega (arith, ap length same) in
     let a : after ≡ text ++ fed (lineText (Accepted (n + 1) (wordOf m))) =
-    c .in-Continue-add .ensures tt ∙ ap (λ (w : Word). text ++ fed (lineText (Accepted (n + 1) w))) (c .of-record-word .ensures) in
+    c .in-Continue-add .ensures tt ∙ ap (λ (w : Word). text ++ fed (lineText (Accepted (n + 1) w))) (c .from-record-word .ensures) in
     let q : c .next-entry .last .self .offset ≡ at + sizeOf m = found .offset ∙ ap (behind at) e in (
       subst (λ (k : ℕ). Going start after bs k (n + 1)) (sym q) (goes start text bs at n (entry .offset) m after (c .loop-entry .inv .0) h e2 a),
       found .trace ∙ same,

@@ -11,6 +11,7 @@ fn main(rt: LibcRuntime) -> io::Result<()> {
     rt.stdin()
         .take(report::LONGEST as u64 + 1)
         .read_to_end(&mut trace)?;
-    let text = report::text_of(heap, trace.as_slice())?;
+    let mut text = String::new(heap);
+    report::add_listing(&mut text, trace.as_slice())?;
     rt.stdout().write_all(text.as_bytes())
 }

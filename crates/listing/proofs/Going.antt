@@ -11,17 +11,15 @@ use Rattle.trace.specs.Contents.{Content, sizeOf}
 use Rattle.trace.specs.Format.{parse}
 use Rattle.trace.specs.Whole.{Whole, whole}
 use Rattle.trace.proofs.Whole.{rest, whole-rest, rest-record}
-use Rattle.listing.specs.declared.line.Line.the-variants.{Accepted}
-use Rattle.listing.specs.Lines.{wordOf, lineText}
-use Rattle.listing.specs.Text.{fed, recordLines, endingLines, bodyText}
+use Rattle.listing.specs.Text.{recordLine, recordLines, endingLines, bodyText}
 
--- the lines of the rest of a trace, where n records stand before
-abbrev pub tail : ℕ → Whole → List ℕ
-tail n w = recordLines (n + 1) (w .records) ++ endingLines (w .ending)
+-- the lines of the trace from `at` on, where n records stand before
+abbrev pub tail : List ℕ → ℕ → ℕ → List ℕ
+tail bs at n = recordLines (n + 1) (rest bs at .records) ++ endingLines (rest bs at .ending)
 
 -- the text was `start` and is `text`, and the reader stands at `at` behind n records
 pub record Going (start text bs : List ℕ) (at n : ℕ) : Type 0 where
-  pub lines : text ++ tail n (rest bs at) ≡ start ++ bodyText (whole bs)
+  pub lines : text ++ tail bs at n ≡ start ++ bodyText (whole bs)
   pub count : n + length (rest bs at .records) ≡ length (whole bs .records)
   pub seen : n ≤ at
 
@@ -32,19 +30,17 @@ starts start bs = record {
   seen = omega arith;
 }
 
-pub goes : (start text bs : List ℕ) (at n i : ℕ) (m : Content) (after : List ℕ) → Going start text bs at n → at ≤ length bs → parse bs at ≡ Ok (Some (i, m))
-    → after ≡ text ++ fed (lineText (Accepted (n + 1) (wordOf m))) → Going start after bs (at + sizeOf m) (n + 1)
-goes start text bs at n i m after g h e a =
-    let later = rest bs (at + sizeOf m) in
-    let line = fed (lineText (Accepted (n + 1) (wordOf m))) in
-    let r = rest-record bs at i m h e in
-    record {
-      lines =
-          ap (λ (t : List ℕ). t ++ tail (n + 1) later) a
-          ∙ append-assoc text line (tail (n + 1) later)
-          ∙ ap (λ (t : List ℕ). text ++ t) (sym (append-assoc line (recordLines (n + 1 + 1) (later .records)) (endingLines (later .ending))))
-          ∙ ap (λ (w : Whole). text ++ tail n w) (sym r)
-          ∙ g .lines;
-      count = let c = ap (λ (w : Whole). length (w .records)) r in omega (arith, g .count);
-      seen = omega (arith, g .seen);
-    }
+module _ (bs : List ℕ) (at n i : ℕ) (m : Content) (h : at ≤ length bs) (e : parse bs at ≡ Ok (Some (i, m))) where
+  -- the line of the next record, and those behind it
+  pub next-line : tail bs at n ≡ recordLine (n + 1) m ++ tail bs (at + sizeOf m) (n + 1)
+  next-line =
+      let later = rest bs (at + sizeOf m) in
+      ap (λ (w : Whole). recordLines (n + 1) (w .records) ++ endingLines (w .ending)) (rest-record bs at i m h e)
+      ∙ append-assoc (recordLine (n + 1) m) (recordLines (n + 1 + 1) (later .records)) (endingLines (later .ending))
+
+  pub goes : (start text after : List ℕ) → Going start text bs at n → after ++ tail bs (at + sizeOf m) (n + 1) ≡ start ++ bodyText (whole bs) → Going start after bs (at + sizeOf m) (n + 1)
+  goes start text after g a = record {
+    lines = a;
+    count = let c = ap (λ (w : Whole). length (w .records)) (rest-record bs at i m h e) in omega (arith, g .count);
+    seen = omega (arith, g .seen);
+  }

@@ -1,14 +1,13 @@
 -- The lines of a listing, as bytes.
-use mathlib.Core.List.{List, _++_}
-use Prim.Native.Nat.{ℕ}
+use Prim.Native.Nat.{ℕ, zero, suc, _+_}
+use mathlib.Core.List.{List, [], _∷_, _++_}
 use lib.Chars.{codes}
 use Rattle.std.specs.Written.{decimal}
-use Rattle.stamps.specs.Refusals.{numberOf}
 use Rattle.trace.specs.Contents.{Content, set-up, note, send, receipt, loss, put-point, put-tag, read-point, read-tag}
 use Rattle.listing.specs.declared.line.Word.{Word}
 use Rattle.listing.specs.declared.line.Word.the-variants as word
-use Rattle.listing.specs.declared.line.Line.{Line}
-use Rattle.listing.specs.declared.line.Line.the-variants.{Accepted, Bad, End, TooLong}
+use Rattle.listing.specs.declared.line.Piece.{Piece}
+use Rattle.listing.specs.declared.line.Piece.the-variants as piece
 
 -- the word that a record goes by
 abbrev pub wordOf : Content → Word
@@ -30,17 +29,26 @@ wordText word.Receipt = codes "receipt"
 wordText word.Loss = codes "loss"
 wordText word.Put = codes "put"
 wordText word.Read = codes "read"
+wordText word.Bad = codes "bad"
+wordText word.At = codes "at"
+wordText word.End = codes "end"
+wordText word.TooLong = codes "too long"
 
--- a refused record: the refusal's number and the record's offset
-abbrev pub badText : ℕ → ℕ → List ℕ
-badText number offset = codes "bad " ++ (decimal number ++ (codes " at " ++ decimal offset))
+-- a word or a number, as it is printed
+abbrev pub pieceText : Piece → List ℕ
+pieceText (piece.Word w) = wordText w
+pieceText (piece.Number n) = decimal n
 
--- the last line: how many records were accepted, and how many refused
-abbrev pub endText : ℕ → ℕ → List ℕ
-endText accepted refusals = codes "end " ++ (decimal accepted ++ (codes " " ++ decimal refusals))
+-- what parts a piece from the one before: a space, and nothing before the first
+abbrev pub gap : ℕ → List ℕ
+gap zero = []
+gap (suc i) = 32 ∷ []
 
-abbrev pub lineText : Line → List ℕ
-lineText (Accepted number w) = decimal number ++ (codes " " ++ wordText w)
-lineText (Bad refusal offset) = badText (numberOf refusal) offset
-lineText (End accepted refusals) = endText accepted refusals
-lineText TooLong = codes "too long"
+-- the pieces from the i-th of a line on
+abbrev pub spaced : ℕ → List Piece → List ℕ
+spaced i [] = []
+spaced i (p ∷ ps) = (gap i ++ pieceText p) ++ spaced (i + 1) ps
+
+-- a line: its pieces, parted by spaces, and a line feed
+abbrev pub lineText : List Piece → List ℕ
+lineText ps = spaced 0 ps ++ 10 ∷ []

@@ -1,3 +1,3 @@
 // The listing: a trace's bytes to the text that is printed.
-pub mod line;
+mod line;
 pub mod report;

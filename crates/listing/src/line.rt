@@ -1,13 +1,14 @@
-// The lines of a listing.
+// The lines of a listing: words and numbers, parted by spaces.
 ghost use mathlib.Core.Path.{_≡_};
-ghost use Rattle.std.specs.declared.option.Option.the-variants.{Some};
+ghost use mathlib.Core.List.{[], _∷_, _++_};
+ghost use Prim.Native.Nat.{_+_, _<_};
+ghost use Rattle.std.specs.Written.{decimal};
 ghost use Rattle.trace.specs.Contents.{contentOf};
-ghost use Rattle.listing.specs.Lines.{wordOf, wordText, lineText};
-use stamps::refusal::Refusal;
-use std::fmt;
+ghost use Rattle.listing.specs.Added.{Added};
+ghost use Rattle.listing.specs.Lines.{wordOf, wordText, pieceText, gap, lineText};
+use std::alloc::AllocError;
 use trace::records::Record;
 
-// The word that a record goes by.
 #[derive(Clone, Copy)]
 pub enum Word {
     SetUp,
@@ -17,9 +18,14 @@ pub enum Word {
     Loss,
     Put,
     Read,
+    Bad,
+    At,
+    End,
+    TooLong,
 }
 
 impl Word {
+    // The word that a record goes by.
     pub fn from_record(record: &Record) -> Word
         ensures { λ r. ⌜ r ≡ wordOf (contentOf (now («record» .entry))) ⌝ }
     {
@@ -33,44 +39,84 @@ impl Word {
             Record::ReadPoint { .. } | Record::ReadTag { .. } => Word::Read,
         }
     }
-}
 
-pub impl fmt::Display for Word as WordDisplay {
-    ghost shown = { λ w. Some (wordText w) };
-
-    fn fmt<W: fmt::Write>(&self, f: &mut fmt::Formatter<W>) -> fmt::Result {
+    pub fn as_str(self) -> &'static str
+        ensures { λ r. ⌜ now r ≡ wordText self ⌝ }
+    {
         match self {
-            Word::SetUp => write!(f, "setup"),
-            Word::Note => write!(f, "note"),
-            Word::Send => write!(f, "send"),
-            Word::Receipt => write!(f, "receipt"),
-            Word::Loss => write!(f, "loss"),
-            Word::Put => write!(f, "put"),
-            Word::Read => write!(f, "read"),
+            Word::SetUp => "setup",
+            Word::Note => "note",
+            Word::Send => "send",
+            Word::Receipt => "receipt",
+            Word::Loss => "loss",
+            Word::Put => "put",
+            Word::Read => "read",
+            Word::Bad => "bad",
+            Word::At => "at",
+            Word::End => "end",
+            Word::TooLong => "too long",
         }
     }
 }
 
 #[derive(Clone, Copy)]
-pub enum Line {
-    Accepted { number: u64, word: Word },
-    Bad { refusal: Refusal, offset: usize },
-    End { accepted: u64, refused: u64 },
-    TooLong,
+pub enum Piece {
+    Word(Word),
+    Number(u64),
 }
 
-pub impl fmt::Display for Line as LineDisplay {
-    ghost shown = { λ l. Some (lineText l) };
+// Adds one ASCII character.
+fn add_char(text: &mut String, c: char) -> Result<(), AllocError>
+    requires { ⌜ c < 128 ⌝ }
+    ensures { λ r. ⌜ Added (now (text .entry)) (now (text .exit)) (c ∷ []) r ⌝ }
+{
+    text.push(c)
+}
 
-    fn fmt<W: fmt::Write>(&self, f: &mut fmt::Formatter<W>) -> fmt::Result {
-        match *self {
-            Line::Accepted { number, word } => write!(f, "{number} {word}"),
-            Line::Bad { refusal, offset } => {
-                let number = refusal.number();
-                write!(f, "bad {number} at {offset}")
-            }
-            Line::End { accepted, refused } => write!(f, "end {accepted} {refused}"),
-            Line::TooLong => write!(f, "too long"),
-        }
+fn digit(n: u64) -> char
+    requires { ⌜ n < 10 ⌝ }
+    ensures { λ r. ⌜ r ≡ 48 + n ⌝ }
+{
+    char::from(b'0' + n as u8)
+}
+
+// Adds a number in decimal digits.
+fn add_number(text: &mut String, number: u64) -> Result<(), AllocError>
+    ensures { λ r. ⌜ Added (now (text .entry)) (now (text .exit)) (decimal number) r ⌝ }
+{
+    if number < 10 {
+        return add_char(text, digit(number));
     }
+    add_number(text, number / 10)?;
+    add_char(text, digit(number % 10))
+}
+
+fn add_piece(text: &mut String, piece: Piece) -> Result<(), AllocError>
+    ensures { λ r. ⌜ Added (now (text .entry)) (now (text .exit)) (pieceText piece) r ⌝ }
+{
+    match piece {
+        Piece::Word(word) => text.push_str(word.as_str()),
+        Piece::Number(number) => add_number(text, number),
+    }
+}
+
+// Adds the piece at place i of a line: behind a space, unless it is the first.
+fn add_spaced(text: &mut String, i: usize, piece: Piece) -> Result<(), AllocError>
+    ensures { λ r. ⌜ Added (now (text .entry)) (now (text .exit)) (gap i ++ pieceText piece) r ⌝ }
+{
+    if i == 0 {
+        return add_piece(text, piece);
+    }
+    add_char(text, ' ')?;
+    add_piece(text, piece)
+}
+
+// Adds a line of these pieces.
+pub fn add_line(text: &mut String, pieces: &[Piece]) -> Result<(), AllocError>
+    ensures { λ r. ⌜ Added (now (text .entry)) (now (text .exit)) (lineText (now (pieces .entry))) r ⌝ }
+{
+    for (i, piece) in pieces.iter().enumerate() {
+        add_spaced(text, i, *piece)?;
+    }
+    add_char(text, '\n')
 }

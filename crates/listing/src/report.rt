@@ -1,34 +1,49 @@
 // The text of a listing.
 ghost use mathlib.Core.Path.{_≡_};
-ghost use mathlib.Core.List.{_++_};
 ghost use lib.Dec.{leb};
 ghost use lib.ListN.{length};
-ghost use Rattle.std.specs.Of.String.{string-bytes};
 ghost use Rattle.std.specs.Vec.{made};
+ghost use Rattle.stamps.specs.Refusals.{numberOf};
+ghost use Rattle.trace.specs.Contents.{contentOf};
 ghost use Rattle.trace.specs.Whole.{whole, OneWay};
-ghost use Rattle.listing.specs.Lines.{lineText};
-ghost use Rattle.listing.specs.Text.{fed, bodyText, textOf};
-use crate::line::Line;
-use crate::line::LineDisplay;
+ghost use Rattle.listing.specs.Added.{Added};
+ghost use Rattle.listing.specs.Text.{recordLine, badLine, bodyText, textOf};
+use crate::line::Piece;
 use crate::line::Word;
-use std::alloc::Global;
-use std::fmt;
-use std::fmt::Write;
+use crate::line::add_line;
+use stamps::refusal::Refusal;
+use std::alloc::AllocError;
 use trace::reader::Reader;
+use trace::records::Record;
 
 // The longest trace that is listed, in bytes.
 pub const LONGEST: usize = 65_536;
 
-// Adds the line and a line feed to the text.
-fn add(text: &mut String, line: Line) -> fmt::Result
-    ensures { λ r. ⌜ made r (λ _. string-bytes (now (text .exit)) ≡ string-bytes (now (text .entry)) ++ fed (lineText line)) ⌝ }
+fn add_record(text: &mut String, number: u64, record: &Record) -> Result<(), AllocError>
+    ensures { λ r. ⌜ Added (now (text .entry)) (now (text .exit)) (recordLine number (contentOf (now («record» .entry)))) r ⌝ }
 {
-    writeln!(text, "{line}")
+    let word = Word::from_record(record);
+    add_line(text, &[Piece::Number(number), Piece::Word(word)])
+}
+
+fn add_bad(text: &mut String, refusal: Refusal, offset: usize) -> Result<(), AllocError>
+    ensures { λ r. ⌜ Added (now (text .entry)) (now (text .exit)) (badLine (numberOf refusal) offset) r ⌝ }
+{
+    let number = u64::from(refusal.number());
+    add_line(
+        text,
+        &[
+            Piece::Word(Word::Bad),
+            Piece::Number(number),
+            Piece::Word(Word::At),
+            Piece::Number(offset as u64),
+        ],
+    )
 }
 
 // Adds a line for each record, and one where a record is refused, and answers how many records there are.
-fn add_records(text: &mut String, trace: &[u8]) -> Result<u64, fmt::Error>
-    ensures text { λ r. ⌜ made r (λ _. string-bytes (now (text .exit)) ≡ string-bytes (now (text .entry)) ++ bodyText (whole (now (trace .entry)))) ⌝ }
+fn add_records(text: &mut String, trace: &[u8]) -> Result<u64, AllocError>
+    ensures text { λ r. ⌜ Added (now (text .entry)) (now (text .exit)) (bodyText (whole (now (trace .entry)))) r ⌝ }
     ensures count { λ r. ⌜ made r (λ n. n ≡ length (whole (now (trace .entry)) .records)) ⌝ }
 {
     let mut reader = Reader::new(trace);
@@ -37,19 +52,11 @@ fn add_records(text: &mut String, trace: &[u8]) -> Result<u64, fmt::Error>
         match reader.next_entry() {
             Ok(Some(entry)) => {
                 accepted += 1;
-                let word = Word::from_record(&entry.record);
-                add(
-                    text,
-                    Line::Accepted {
-                        number: accepted,
-                        word,
-                    },
-                )?;
+                add_record(text, accepted, &entry.record)?;
             }
             Ok(None) => return Ok(accepted),
             Err(refusal) => {
-                let offset = reader.offset();
-                add(text, Line::Bad { refusal, offset })?;
+                add_bad(text, refusal, reader.offset())?;
                 return Ok(accepted);
             }
         }
@@ -64,23 +71,21 @@ fn is_listed(trace: &[u8]) -> bool
     trace.get(LONGEST).is_none()
 }
 
-// The whole listing of a trace. The only failure is want of memory.
-pub fn text_of(heap: Global, trace: &[u8]) -> Result<String, fmt::Error>
-    ensures text { λ r. ⌜ made r (λ text. string-bytes text ≡ textOf (now (trace .entry))) ⌝ }
+// Adds the whole listing of a trace to the text. The only failure is want of memory.
+pub fn add_listing(text: &mut String, trace: &[u8]) -> Result<(), AllocError>
+    ensures text { λ r. ⌜ Added (now (text .entry)) (now (text .exit)) (textOf (now (trace .entry))) r ⌝ }
     ensures records { λ _. ⌜ OneWay (now (trace .entry)) ⌝ }
 {
-    let mut text = String::new(heap);
     if !is_listed(trace) {
-        add(&mut text, Line::TooLong)?;
-        return Ok(text);
+        return add_line(text, &[Piece::Word(Word::TooLong)]);
     }
-    let accepted = add_records(&mut text, trace)?;
-    add(
-        &mut text,
-        Line::End {
-            accepted,
-            refused: 0,
-        },
-    )?;
-    Ok(text)
+    let accepted = add_records(text, trace)?;
+    add_line(
+        text,
+        &[
+            Piece::Word(Word::End),
+            Piece::Number(accepted),
+            Piece::Number(0),
+        ],
+    )
 }

@@ -1,5 +1,5 @@
 use listing::report::LONGEST;
-use listing::report::text_of;
+use listing::report::add_listing;
 use stamps::refusal::RefusalDebug;
 use std::alloc::AllocError;
 use std::alloc::Global;
@@ -25,6 +25,13 @@ const KINDS: [(u8, usize, &str); 9] = [
     (7, 12, "1 read\nend 1 0\n"),
     (8, 24, "1 read\nend 1 0\n"),
 ];
+
+// The listing of a trace.
+fn listing_of(heap: Global, trace: &[u8]) -> Result<String, AllocError> {
+    let mut text = String::new(heap);
+    add_listing(&mut text, trace)?;
+    Ok(text)
+}
 
 // A kind's byte and a body of `len` zero bytes.
 fn record_bytes(heap: Global, kind: u8, len: usize) -> Result<Vec<u8>, AllocError> {
@@ -80,7 +87,7 @@ fn put_is_read() -> Result<(), Fail> {
 fn every_kind(rt: LibcRuntime) -> Result<(), Fail> {
     for (kind, len, text) in KINDS {
         let bytes = record_bytes(rt.alloc(), kind, len)?;
-        let listed = text_of(rt.alloc(), bytes.as_slice())?;
+        let listed = listing_of(rt.alloc(), bytes.as_slice())?;
         check_eq(listed.as_str(), text)?;
     }
     Ok(())
@@ -91,7 +98,7 @@ fn every_kind_cut_short(rt: LibcRuntime) -> Result<(), Fail> {
     for (kind, len, _) in KINDS {
         for kept in 0..len {
             let bytes = record_bytes(rt.alloc(), kind, kept)?;
-            let listed = text_of(rt.alloc(), bytes.as_slice())?;
+            let listed = listing_of(rt.alloc(), bytes.as_slice())?;
             check_eq(listed.as_str(), "bad 2 at 0\nend 0 0\n")?;
         }
     }
@@ -100,15 +107,15 @@ fn every_kind_cut_short(rt: LibcRuntime) -> Result<(), Fail> {
 
 #[test]
 fn unknown_kind(rt: LibcRuntime) -> Result<(), Fail> {
-    let alone = text_of(rt.alloc(), &[9])?;
+    let alone = listing_of(rt.alloc(), &[9])?;
     check_eq(alone.as_str(), "bad 1 at 0\nend 0 0\n")?;
-    let behind = text_of(rt.alloc(), &[4, 0, 0, 0, 1, 255, 0])?;
+    let behind = listing_of(rt.alloc(), &[4, 0, 0, 0, 1, 255, 0])?;
     check_eq(behind.as_str(), "1 loss\nbad 1 at 5\nend 1 0\n")
 }
 
 #[test]
 fn empty(rt: LibcRuntime) -> Result<(), Fail> {
-    let listed = text_of(rt.alloc(), &[])?;
+    let listed = listing_of(rt.alloc(), &[])?;
     check_eq(listed.as_str(), "end 0 0\n")
 }
 
@@ -146,7 +153,7 @@ fn losses(heap: Global, len: usize) -> Result<Vec<u8>, AllocError> {
 #[test]
 fn longest(rt: LibcRuntime) -> Result<(), Fail> {
     let bytes = losses(rt.alloc(), LONGEST)?;
-    let listed = text_of(rt.alloc(), bytes.as_slice())?;
+    let listed = listing_of(rt.alloc(), bytes.as_slice())?;
     check(
         listed
             .as_str()
@@ -157,6 +164,6 @@ fn longest(rt: LibcRuntime) -> Result<(), Fail> {
 #[test]
 fn too_long(rt: LibcRuntime) -> Result<(), Fail> {
     let bytes = losses(rt.alloc(), LONGEST + 1)?;
-    let listed = text_of(rt.alloc(), bytes.as_slice())?;
+    let listed = listing_of(rt.alloc(), bytes.as_slice())?;
     check_eq(listed.as_str(), "too long\n")
 }

@@ -1,25 +1,17 @@
 -- Bytes that are added one after another.
-use mathlib.Core.Path.{_≡_, refl, sym, ap, subst, _∙_}
-use mathlib.Core.Bool.{Bool, true, false, cond}
-use mathlib.Core.List.{List, [], _∷_, _++_, append-assoc}
-use Prim.Native.Nat.{ℕ, zero, suc, _+_, _≤_, _<_}
+use mathlib.Core.Path.{_≡_, refl, ap, subst, _∙_}
+use mathlib.Core.Bool.{Bool, true, cond}
+use mathlib.Core.List.{List, _++_, append-assoc}
+use Prim.Native.Nat.{ℕ, _+_, _≤_}
 use native.Mathlib.Omega.{arith}
-use lib.ListN.{length, getD, drop, length-append}
+use lib.ListN.{length, length-append}
 use Rattle.std.specs.Of.String.{string-bytes, string-len, string-cap}
 use Rattle.std.specs.Results.{isOk, isErr}
 use Rattle.std.specs.declared.result.Result.{Result}
 use Rattle.std.specs.declared.result.Result.the-variants.{Ok, Err}
 use Rattle.std.specs.declared.string.String.{String}
-use Rattle.std.proofs.shelf.Lists.{drop-more}
 use Rattle.std.proofs.shelf.Tests.{false≢true}
 use Rattle.listing.specs.Added.{Added}
-use Rattle.listing.specs.Lines.{gap, pieceText, spaced, lineText}
-use Rattle.listing.specs.Text.{bodyText, endLine, textOf}
-use Rattle.listing.specs.declared.line.Piece.the-variants.{Word}
-use Rattle.listing.specs.declared.line.Word.the-variants.{TooLong}
-use Rattle.trace.specs.Whole.{whole}
-use lib.Dec.{leb}
-use Rattle.listing.specs.declared.line.Piece.{Piece}
 
 -- a second addition behind one that succeeded
 pub more : {Z X Y E F : Type 0} {was mid after : String Z} (xs ys : List ℕ) {x : X} {q : Result Y F} → Added {E = E} was mid xs (Ok x) → Added mid after ys q → Added was after (xs ++ ys) q
@@ -59,10 +51,6 @@ pushed was after xs r b s c = record {
 pub same-bytes : {Z X E : Type 0} (was after : String Z) (xs ys : List ℕ) (r : Result X E) → xs ≡ ys → Added was after xs r → Added was after ys r
 same-bytes was after xs ys r e a = subst (λ (t : List ℕ). Added was after t r) e a
 
-pub gap-later : (i : ℕ) → (i ≡ 0 → ⊥) → 32 ∷ [] ≡ gap i
-gap-later zero n = absurd (n refl)
-gap-later (suc i) n = refl
-
 -- `line` is added to a text that is on the way from `was` to one with `all` added, and `rest` comes behind it: where it fails, all fails
 pub stop : {Z X Y E F : Type 0} (was mid after : String Z) (all line rest : List ℕ) {e : E} (q : Result Y F) → string-bytes mid ++ (line ++ rest) ≡ string-bytes was ++ all
     → string-cap was ≤ string-cap mid → Added {X = X} mid after line (Err e) → isErr q ≡ true → Added was after all q
@@ -73,12 +61,3 @@ pub step : {Z X E : Type 0} (was mid after : String Z) (all line rest : List ℕ
     → string-cap was ≤ string-cap mid → Added {E = E} mid after line (Ok x) → (string-bytes after ++ rest ≡ string-bytes was ++ all) × (string-cap was ≤ string-cap after)
 step was mid after all line rest s c a =
     (ap (λ (t : List ℕ). t ++ rest) (a .text refl) ∙ append-assoc (string-bytes mid) line rest ∙ s, omega (arith, a .capacity))
-
--- the next piece of a line, and what follows it
-pub next-piece : (ps : List Piece) (i : ℕ) (d : Piece) → i < length ps
-    → spaced i (drop i ps) ++ (10 ∷ []) ≡ (gap i ++ pieceText (getD ps i d)) ++ (spaced (i + 1) (drop (i + 1) ps) ++ (10 ∷ []))
-next-piece ps i d h =
-    ap (λ (t : List Piece). spaced i t ++ (10 ∷ [])) (drop-more ps i d h) ∙ append-assoc (gap i ++ pieceText (getD ps i d)) (spaced (i + 1) (drop (i + 1) ps)) (10 ∷ [])
-
-pub listed-text : (bs : List ℕ) → leb (length bs) 65536 ≡ true → textOf bs ≡ bodyText (whole bs) ++ endLine (length (whole bs .records)) 0
-listed-text bs e = ap (λ (b : Bool). cond b (bodyText (whole bs) ++ endLine (length (whole bs .records)) 0) (lineText (Word TooLong ∷ []))) e

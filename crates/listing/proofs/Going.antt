@@ -1,9 +1,11 @@
 -- What is known between two records of a trace that is being listed.
+use mathlib.Core.Bool.{Bool, true, cond}
 use mathlib.Core.Path.{_≡_, sym, ap, _∙_}
-use mathlib.Core.List.{List, _++_, append-assoc}
+use mathlib.Core.List.{List, [], _∷_, _++_, append-assoc}
 use Prim.Native.Nat.{ℕ, _+_, _≤_}
 use native.Mathlib.Nat.{zero-add}
 use native.Mathlib.Omega.{arith}
+use lib.Dec.{leb}
 use lib.ListN.{length}
 use Rattle.std.specs.declared.option.Option.the-variants.{Some}
 use Rattle.std.specs.declared.result.Result.the-variants.{Ok}
@@ -11,7 +13,10 @@ use Rattle.trace.specs.Contents.{Content, sizeOf}
 use Rattle.trace.specs.Format.{parse}
 use Rattle.trace.specs.Whole.{Whole, whole}
 use Rattle.trace.proofs.Whole.{rest, whole-rest, rest-record}
-use Rattle.listing.specs.Text.{recordLine, recordLines, endingLines, bodyText}
+use Rattle.listing.specs.declared.line.Piece.the-variants.{Word}
+use Rattle.listing.specs.declared.line.Word.the-variants.{TooLong}
+use Rattle.listing.specs.Lines.{lineText}
+use Rattle.listing.specs.Text.{recordLine, recordLines, endingLines, bodyText, endLine, textOf}
 
 -- the lines of the trace from `at` on, where n records stand before
 abbrev pub tail : List ℕ → ℕ → ℕ → List ℕ
@@ -32,7 +37,7 @@ starts start bs = record {
 
 module _ (bs : List ℕ) (at n i : ℕ) (m : Content) (h : at ≤ length bs) (e : parse bs at ≡ Ok (Some (i, m))) where
   -- the line of the next record, and those behind it
-  pub next-line : tail bs at n ≡ recordLine (n + 1) m ++ tail bs (at + sizeOf m) (n + 1)
+  next-line : tail bs at n ≡ recordLine (n + 1) m ++ tail bs (at + sizeOf m) (n + 1)
   next-line =
       let later = rest bs (at + sizeOf m) in
       ap (λ (w : Whole). recordLines (n + 1) (w .records) ++ endingLines (w .ending)) (rest-record bs at i m h e)
@@ -44,3 +49,11 @@ module _ (bs : List ℕ) (at n i : ℕ) (m : Content) (h : at ≤ length bs) (e 
     count = let c = ap (λ (w : Whole). length (w .records)) (rest-record bs at i m h e) in omega (arith, g .count);
     seen = omega (arith, g .seen);
   }
+
+  -- the text on the way, with that line next
+  pub next-text : (text all : List ℕ) → text ++ tail bs at n ≡ all → text ++ (recordLine (n + 1) m ++ tail bs (at + sizeOf m) (n + 1)) ≡ all
+  next-text text all s = ap (λ (t : List ℕ). text ++ t) (sym next-line) ∙ s
+
+-- the text of a trace that is short enough
+pub listed-text : (bs : List ℕ) → leb (length bs) 65536 ≡ true → textOf bs ≡ bodyText (whole bs) ++ endLine (length (whole bs .records)) 0
+listed-text bs e = ap (λ (b : Bool). cond b (bodyText (whole bs) ++ endLine (length (whole bs .records)) 0) (lineText (Word TooLong ∷ []))) e

@@ -1,2 +1,3 @@
 mod Adding
+mod Spacing
 mod Going

@@ -6,7 +6,6 @@ use lib.ListN.{length}
 use lib.Dec.{leb}
 use Rattle.trace.specs.Contents.{Content}
 use Rattle.trace.specs.Whole.{Whole, Ending, complete, refused, whole}
-use Rattle.listing.specs.declared.line.Piece.{Piece}
 use Rattle.listing.specs.declared.line.Piece.the-variants.{Word, Number}
 use Rattle.listing.specs.declared.line.Word.the-variants.{Bad, At, End, TooLong}
 use Rattle.listing.specs.Lines.{wordOf, lineText}

@@ -71,7 +71,7 @@ fn is_listed(trace: &[u8]) -> bool
     trace.get(LONGEST).is_none()
 }
 
-// Adds the whole listing of a trace to the text. The only failure is want of memory.
+// Adds the whole listing of a trace to the text. The only failure is want of memory; the text may then have gained a part of it.
 pub fn add_listing(text: &mut String, trace: &[u8]) -> Result<(), AllocError>
     ensures text { λ r. ⌜ Added (now (text .entry)) (now (text .exit)) (textOf (now (trace .entry))) r ⌝ }
     ensures records { λ _. ⌜ OneWay (now (trace .entry)) ⌝ }

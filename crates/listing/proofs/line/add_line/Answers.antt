@@ -1,4 +1,4 @@
-use mathlib.Core.Path.{_≡_, sym, ap, _∙_}
+use mathlib.Core.Path.{sym, ap, _∙_}
 use mathlib.Core.List.{List, [], _∷_, _++_}
 use Prim.Native.Nat.{ℕ, _+_, _<_}
 use native.Mathlib.Omega.{arith}
@@ -9,7 +9,8 @@ use Rattle.listing.specs.declared.line.Piece.{Piece}
 use Rattle.listing.specs.declared.line.Piece.the-variants.{Word}
 use Rattle.listing.specs.declared.line.Word.the-variants.{SetUp}
 use Rattle.listing.specs.Lines.{gap, pieceText, spaced, lineText}
-use Rattle.listing.proofs.Adding.{stop, step, onward, next-piece}
+use Rattle.listing.proofs.Adding.{stop, step, onward}
+use Rattle.listing.proofs.Spacing.{next-piece}
 use Rattle.listing.proofs.line.add_line.Needs as need
 
 pub returns-in-Break-add-spaced : need.returns-in-Break-add-spaced

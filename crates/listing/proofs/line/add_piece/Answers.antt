@@ -1,4 +1,4 @@
-use mathlib.Core.Path.{_≡_, sym, ap, _∙_}
+use mathlib.Core.Path.{sym, ap, _∙_}
 use Rattle.listing.specs.Lines.{pieceText}
 use Rattle.listing.proofs.Adding.{pushed, same-bytes}
 use Rattle.listing.proofs.line.add_piece.Needs as need

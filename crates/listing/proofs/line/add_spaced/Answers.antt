@@ -2,8 +2,9 @@ use mathlib.Core.Path.{_≡_, ap}
 use mathlib.Core.List.{List, [], _∷_, _++_}
 use Prim.Native.Nat.{ℕ}
 use native.Mathlib.Omega.{arith}
-use Rattle.listing.specs.Lines.{gap, pieceText}
-use Rattle.listing.proofs.Adding.{more, same-bytes, gap-later}
+use Rattle.listing.specs.Lines.{pieceText}
+use Rattle.listing.proofs.Adding.{more, same-bytes}
+use Rattle.listing.proofs.Spacing.{gap-later}
 use Rattle.listing.proofs.line.add_spaced.Needs as need
 
 pub returns : need.returns

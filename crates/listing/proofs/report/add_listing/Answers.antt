@@ -1,13 +1,14 @@
 use mathlib.Core.Path.{_≡_, sym, ap, _∙_}
-use mathlib.Core.Bool.{Bool, true, cond}
-use mathlib.Core.List.{List, _++_}
+use mathlib.Core.Bool.{true}
+use mathlib.Core.List.{_++_}
 use Prim.Native.Nat.{ℕ}
 use borrow.Author.Needs.{needs}
 use lib.Dec.{leb}
 use lib.ListN.{length}
 use Rattle.trace.specs.Whole.{whole}
 use Rattle.listing.specs.Text.{bodyText, endLine, textOf}
-use Rattle.listing.proofs.Adding.{more, halted, same-bytes, listed-text}
+use Rattle.listing.proofs.Adding.{more, halted, same-bytes}
+use Rattle.listing.proofs.Going.{listed-text}
 use Rattle.listing.proofs.report.add_listing.Needs as need
 
 pub returns-in-Break-accepted : need.returns-in-Break-accepted

@@ -15,7 +15,7 @@ use Rattle.trace.specs.Whole.{Whole, whole}
 use Rattle.trace.proofs.Whole.{rest-refused}
 use Rattle.listing.specs.Text.{recordLine, recordLines, endingLines, badLine, bodyText}
 use Rattle.listing.proofs.Adding.{stop, step, same-bytes}
-use Rattle.listing.proofs.Going.{Going, tail, starts, next-line, goes}
+use Rattle.listing.proofs.Going.{Going, tail, starts, next-text, goes}
 use Rattle.listing.proofs.report.add_records.Needs as need
 
 pub loop-entry-holds : need.loop-entry-holds
@@ -42,8 +42,7 @@ loop-entry-again c =
     let e : parse (c .loop-entry .reader .trace .now) at ≡ Ok (Some (entryOf entry)) = search (needs, found) in
     let e2 : parse bs at ≡ Ok (Some (entryOf entry)) = ap (λ (x : List ℕ). parse x at) (sym same) ∙ e in
     let h : at ≤ length bs = omega (arith, ap length same) in
-    let s : string-bytes mid ++ (recordLine (n + 1) m ++ tail bs (at + sizeOf m) (n + 1)) ≡ string-bytes was ++ bodyText (whole bs) =
-    ap (λ (t : List ℕ). string-bytes mid ++ t) (sym (next-line bs at n (entry .offset) m h e2)) ∙ g .lines in
+    let s = next-text bs at n (entry .offset) m h e2 (string-bytes mid) (string-bytes was ++ bodyText (whole bs)) (g .lines) in
     let w = step was mid after (bodyText (whole bs)) (recordLine (n + 1) m) (tail bs (at + sizeOf m) (n + 1)) s (c .loop-entry .inv .2) (c .in-Continue-add-record .ensures tt) in
     let q : c .next-entry .last .self .offset ≡ at + sizeOf m = found .offset ∙ ap (behind at) e in (
       subst (λ (k : ℕ). Going (string-bytes was) (string-bytes after) bs k (n + 1)) (sym q) (goes bs at n (entry .offset) m h e2 (string-bytes was) (string-bytes mid) (string-bytes after) g (w .0)),
@@ -65,8 +64,7 @@ returns-in-Break-add-record c =
     let e : parse (c .loop-entry .reader .trace .now) at ≡ Ok (Some (entryOf entry)) = search (needs, found) in
     let e2 : parse bs at ≡ Ok (Some (entryOf entry)) = ap (λ (x : List ℕ). parse x at) (sym same) ∙ e in
     let h : at ≤ length bs = omega (arith, ap length same) in
-    let s : string-bytes mid ++ (recordLine (n + 1) m ++ tail bs (at + sizeOf m) (n + 1)) ≡ string-bytes was ++ bodyText (whole bs) =
-    ap (λ (t : List ℕ). string-bytes mid ++ t) (sym (next-line bs at n (entry .offset) m h e2)) ∙ c .loop-entry .inv .0 .lines in
+    let s = next-text bs at n (entry .offset) m h e2 (string-bytes mid) (string-bytes was ++ bodyText (whole bs)) (c .loop-entry .inv .0 .lines) in
     record {
       text = stop was mid (c .add-record .last .text) (bodyText (whole bs)) (recordLine (n + 1) m) (tail bs (at + sizeOf m) (n + 1)) (c .from-residual .result) s (c .loop-entry .inv .2)
           (c .in-Break-add-record .ensures tt) (c .from-residual .ensures .0);

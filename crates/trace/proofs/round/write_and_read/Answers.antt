@@ -1,5 +1,4 @@
 use mathlib.Core.Path.{_≡_, sym, ap, subst, _∙_}
-use mathlib.Core.List.{List}
 use Prim.Native.Nat.{ℕ}
 use native.Mathlib.Omega.{arith}
 use Rattle.std.specs.Options.{mapped}
@@ -9,7 +8,7 @@ use Rattle.std.specs.declared.result.Result.the-variants.{Ok, Err}
 use Rattle.stamps.specs.Refusals.{numberOf}
 use Rattle.trace.specs.declared.records.Entry.{Entry}
 use Rattle.trace.specs.Contents.{Content, contentOf}
-use Rattle.trace.specs.Format.{Found, Stands, Standing, entryOf}
+use Rattle.trace.specs.Format.{Found, Standing, entryOf}
 use Rattle.trace.proofs.Trips.{read-back}
 use Rattle.trace.proofs.round.write_and_read.Needs as need
 

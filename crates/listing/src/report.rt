@@ -10,7 +10,7 @@ ghost use Rattle.listing.specs.Added.{Added};
 ghost use Rattle.listing.specs.Text.{recordLine, badLine, bodyText, textOf};
 use crate::line::Piece;
 use crate::line::Word;
-use crate::line::add_line;
+use crate::text::add_line;
 use stamps::refusal::Refusal;
 use std::alloc::AllocError;
 use trace::reader::Reader;

@@ -10,28 +10,32 @@ use crate::records::Entry;
 use crate::records::Record;
 use stamps::refusal::Refusal;
 
-// A record that was read back, and the buffer that it stands in.
+// What came of a record that was to be written and read back, and the buffer after it.
 #[derive(Clone, Copy)]
 pub struct ReadBack<'b> {
-    pub entry: Entry<'b>,
+    pub found: Result<Entry<'b>, Refusal>,
     pub buffer: &'b [u8],
 }
 
-// Writes the record over the buffer from `place` on, and answers what the reader finds there.
-pub fn write_and_read<'b>(
-    record: &Record,
-    buffer: &'b mut [u8],
-    place: usize,
-) -> Result<ReadBack<'b>, Refusal>
-    ensures answer { λ r. ⌜ shown (λ back. entryOf (back .entry)) r ≡ reread (contentOf (now («record» .entry))) place (now (buffer .entry)) ⌝ }
-    ensures buffer { λ r. ⌜ made r (λ back. now (back .buffer) ≡ written (contentOf (now («record» .entry))) place (now (buffer .entry))) ⌝ }
-    ensures stands { λ r. ⌜ made r (λ back. Stands (now (back .buffer)) (back .entry)) ⌝ }
+// Writes the record over the buffer from `place` on, and answers what the reader finds there. The buffer
+// is handed back for reading, also where the record does not fit.
+pub fn write_and_read<'b>(record: &Record, buffer: &'b mut [u8], place: usize) -> ReadBack<'b>
+    ensures answer { λ r. ⌜ shown entryOf (r .found) ≡ reread (contentOf (now («record» .entry))) place (now (buffer .entry)) ⌝ }
+    ensures buffer { λ r. ⌜ now (r .buffer) ≡ written (contentOf (now («record» .entry))) place (now (buffer .entry)) ⌝ }
+    ensures stands { λ r. ⌜ made (r .found) (λ e. Stands (now (r .buffer)) e) ⌝ }
 {
-    record.write_to(buffer, place)?;
-    let Some(entry) = entry_at(buffer, place)? else {
-        unreachable()
-    };
-    Ok(ReadBack { entry, buffer })
+    if let Err(refusal) = record.write_to(buffer, place) {
+        let found = Err(refusal);
+        return ReadBack { found, buffer };
+    }
+    match entry_at(buffer, place) {
+        Ok(Some(entry)) => {
+            let found = Ok(entry);
+            ReadBack { found, buffer }
+        }
+        Ok(None) => unreachable(),
+        Err(_) => unreachable(),
+    }
 }
 
 // Copies the record that stands at `offset` of the trace over the buffer from `place` on, and answers the

@@ -134,8 +134,9 @@ fn every_kind_round(rt: LibcRuntime) -> Result<(), Fail> {
         check_eq(buffer.get(3..behind).ok_or("short")?, bytes.as_slice())?;
         let entry = entry_at(&buffer, 3)?.ok_or("none")?;
         let mut second = [0xbb; 40];
-        let back = &write_and_read(&entry.record, &mut second, 3)?;
-        check_eq(back.entry.offset, 3)?;
+        let back = &write_and_read(&entry.record, &mut second, 3);
+        let found = back.found?;
+        check_eq(found.offset, 3)?;
         check_eq(back.buffer.get(3..behind).ok_or("short")?, bytes.as_slice())?;
     }
     Ok(())

@@ -1,7 +1,7 @@
 use mathlib.Core.Path.{sym, ap, _∙_}
 use Rattle.listing.specs.Lines.{pieceText}
 use Rattle.listing.proofs.Adding.{pushed, same-bytes}
-use Rattle.listing.proofs.line.add_piece.Needs as need
+use Rattle.listing.proofs.text.add_piece.Needs as need
 
 pub returns-in-Word : need.returns-in-Word
 returns-in-Word c =

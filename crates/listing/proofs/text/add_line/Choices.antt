@@ -4,7 +4,7 @@ use mathlib.Core.Path.{_≡_}
 use lib.ListN.{drop}
 use Rattle.std.specs.Of.String.{string-bytes, string-cap}
 use Rattle.listing.specs.Lines.{spaced, lineText}
-use Rattle.listing.proofs.line.add_line.Given as given
+use Rattle.listing.proofs.text.add_line.Given as given
 
 abbrev pub Inv-loop-i : given.InvT-loop-i
 Inv-loop-i l =

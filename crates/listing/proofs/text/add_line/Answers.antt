@@ -11,7 +11,7 @@ use Rattle.listing.specs.declared.line.Word.the-variants.{SetUp}
 use Rattle.listing.specs.Lines.{gap, pieceText, spaced, lineText}
 use Rattle.listing.proofs.Adding.{stop, step, onward}
 use Rattle.listing.proofs.Spacing.{next-piece}
-use Rattle.listing.proofs.line.add_line.Needs as need
+use Rattle.listing.proofs.text.add_line.Needs as need
 
 pub returns-in-Break-add-spaced : need.returns-in-Break-add-spaced
 returns-in-Break-add-spaced c =

@@ -5,7 +5,7 @@ use native.Mathlib.Omega.{arith}
 use Rattle.std.specs.Written.{decimal}
 use Rattle.std.proofs.shelf.Decimals.{decimal-digit, decimal-step}
 use Rattle.listing.proofs.Adding.{more, halted, same-bytes}
-use Rattle.listing.proofs.line.+add_number.Needs as need
+use Rattle.listing.proofs.text.+add_number.Needs as need
 
 pub returns-then-number-lt10 : need.returns-then-number-lt10
 returns-then-number-lt10 t c =

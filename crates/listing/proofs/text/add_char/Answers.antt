@@ -1,5 +1,5 @@
 use Rattle.listing.proofs.Adding.{pushed, same-bytes}
-use Rattle.listing.proofs.line.add_char.Needs as need
+use Rattle.listing.proofs.text.add_char.Needs as need
 
 pub returns : need.returns
 returns c =

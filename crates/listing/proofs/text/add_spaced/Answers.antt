@@ -5,7 +5,7 @@ use native.Mathlib.Omega.{arith}
 use Rattle.listing.specs.Lines.{pieceText}
 use Rattle.listing.proofs.Adding.{more, same-bytes}
 use Rattle.listing.proofs.Spacing.{gap-later}
-use Rattle.listing.proofs.line.add_spaced.Needs as need
+use Rattle.listing.proofs.text.add_spaced.Needs as need
 
 pub returns : need.returns
 returns c =

@@ -1,4 +1,6 @@
 // Clock banks: what turns a node's own count into a reading in milliseconds.
+#![tactic(auto)]
+
 pub mod backstep;
 pub mod bank;
 pub mod never_backwards;

@@ -1,4 +1,6 @@
 // Lists the trace that stands on standard input.
+#![tactic(auto)]
+
 use listing::report;
 use std::io;
 use std::io::{Read, Write};

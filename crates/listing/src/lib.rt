@@ -1,4 +1,6 @@
 // The listing: a trace's bytes to the text that is printed.
+#![tactic(auto)]
+
 mod line;
 pub mod report;
 mod text;

@@ -1,4 +1,6 @@
 // Stamps of a hybrid logical clock, and the rules by which an event gets its own.
+#![tactic(auto)]
+
 pub mod code;
 pub mod examples;
 pub mod lead;

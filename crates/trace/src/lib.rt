@@ -1,4 +1,6 @@
 // The trace: what the nodes wrote, as records in bytes.
+#![tactic(auto)]
+
 pub mod kind;
 pub mod reader;
 pub mod records;

@@ -1,4 +1,6 @@
 // How the clocks and the stamp rules are used: a node's first note.
+#![tactic(auto)]
+
 ghost use Rattle.std.specs.Prelude.{◌≡◌};
 ghost use Rattle.clocks.specs.TraceClocks.{traceAnswer};
 ghost use Rattle.refusals.specs.Refusals.{shown};

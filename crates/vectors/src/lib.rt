@@ -1,4 +1,6 @@
 // Known traces and clocks, and what must come of them.
+#![tactic(auto)]
+
 #[cfg(test)]
 mod clocks_and_stamps;
 #[cfg(test)]

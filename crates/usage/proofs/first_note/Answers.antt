@@ -7,11 +7,11 @@ use Rattle.stamps.specs.Stamps.{noStamp}
 use Rattle.usage.proofs.first_note.Goals as goal
 
 -- the clock's refusal is passed on
-pub returns-in-err-reading : goal.returns-in-err-reading
-returns-in-err-reading c =
+pub returns-in_err-reading : goal.returns-in_err-reading
+returns-in_err-reading c =
     let raw = c.args.raw.0 in
-    let twenty : c.in-ok-new.field-0.millis ≡ 20 = let b = c.in-ok-new.ensures in cc in
-    let answer : ◌≡◌ {A = Result ℕ ℕ} (Err (number_of c.in-err-reading.field-0.0)) (traceAnswer 0 20 raw) =
-    c.in-err-reading.ensures ∙ (ap (λ m. (m 0).answer raw) c.new-clocks.ensures ∙ ap (λ z. traceAnswer 0 z raw) twenty) in
-    let note : ◌≡◌ {A = Result Marked ℕ} (Err (number_of c.in-err-reading.field-0.0)) (noted noStamp (traceAnswer 0 20 raw)) = ap (λ z. noted noStamp z) answer in
+    let twenty : c.in_ok-new.field-0.millis ≡ 20 = let b = c.in_ok-new.ensures in cc in
+    let answer : ◌≡◌ {A = Result ℕ ℕ} (Err (number_of c.in_err-reading.field-0.0)) (traceAnswer 0 20 raw) =
+    c.in_err-reading.ensures ∙ (ap (λ m. (m 0).answer raw) c.new-clocks.ensures ∙ ap (λ z. traceAnswer 0 z raw) twenty) in
+    let note : ◌≡◌ {A = Result Marked ℕ} (Err (number_of c.in_err-reading.field-0.0)) (noted noStamp (traceAnswer 0 20 raw)) = ap (λ z. noted noStamp z) answer in
     search (rules, note)

@@ -9,10 +9,10 @@ use Rattle.clocks.proofs.runs.take_all.Goals as goal
 
 pub loop-sample-init : goal.loop-sample-init
 loop-sample-init g c =
-    (omega arith, c.in-ok-reserve.ensures.ok, ([], sym (append-nil (vec_items c.reserve.new.self)), refl, (g.met.B.ClockBank.lawful c.args.bank.now, refl)))
+    (omega arith, c.in_ok-reserve.ensures.ok, ([], sym (append-nil (vec_items c.reserve.new.self)), refl, (g.met.B.ClockBank.lawful c.args.bank.now, refl)))
 
-pub push-reserved-requires : goal.push-reserved-requires
-push-reserved-requires g c = omega (arith, c.loop-sample.invariant)
+pub push_reserved-requires : goal.push_reserved-requires
+push_reserved-requires g c = omega (arith, c.loop-sample.invariant)
 
 pub loop-sample-preserved : goal.loop-sample-preserved
 loop-sample-preserved g c =
@@ -30,11 +30,11 @@ loop-sample-preserved g c =
     let more : paired (take (i + 1) samples) (gained ++ a ∷ []) ≡ paired (take i samples) gained ++ take_of s a ∷ [] =
     ap (λ z. paired z (gained ++ a ∷ [])) (take_more samples i d c.loop-sample-test.true) ∙ paired-more (take i samples) gained s a (inv.2.2 ∙ sym len) in
     let run = run_more (paired (take i samples) gained) was is next (take_of s a) inv.2.3 c.take.ensures (g.met.B.ClockBank.lawful c.take.new.self) in (
-      omega (arith, inv.0, c.push-reserved.ensures.len),
-      omega (arith, inv.1, c.push-reserved.ensures.capacity),
+      omega (arith, inv.0, c.push_reserved.ensures.len),
+      omega (arith, inv.1, c.push_reserved.ensures.capacity),
       (
         gained ++ a ∷ [],
-        c.push-reserved.ensures.items ∙ (ap (λ z. z ++ a ∷ []) inv.2.1 ∙ append_assoc (vec_items c.reserve.new.self) gained (a ∷ [])),
+        c.push_reserved.ensures.items ∙ (ap (λ z. z ++ a ∷ []) inv.2.1 ∙ append_assoc (vec_items c.reserve.new.self) gained (a ∷ [])),
         omega (arith, length-append gained (a ∷ []), inv.2.2),
         subst (λ z. Run was z next) (sym more) run,
       ),

@@ -5,13 +5,13 @@ use Rattle.listing.proofs.Adding.{more, halted, same_bytes}
 use Rattle.listing.proofs.Going.{listed-text}
 use Rattle.listing.proofs.report.add_listing.Goals as goal
 
-pub returns-in-err-accepted : goal.returns-in-err-accepted
-returns-in-err-accepted c =
+pub returns-in_err-accepted : goal.returns-in_err-accepted
+returns-in_err-accepted c =
     let bs = c.args.trace.now in
     let short : leb (length bs) 65536 ≡ true = search rules in
     record {
-      text = same_bytes c.args.text.now c.add-records.new.text _ (text_of bs) c.from-residual.result (sym (listed-text bs short))
-          (halted (bodyText (whole bs)) (endLine (length (whole bs).records) 0) c.from-residual.result c.in-err-accepted.ensures.text c.from-residual.ensures.0);
+      text = same_bytes c.args.text.now c.add_records.new.text _ (text_of bs) c.from_residual.result (sym (listed-text bs short))
+          (halted (bodyText (whole bs)) (endLine (length (whole bs).records) 0) c.from_residual.result c.in_err-accepted.ensures.text c.from_residual.ensures.0);
       records = search rules;
     }
 
@@ -19,10 +19,10 @@ pub returns : goal.returns
 returns c =
     let bs = c.args.trace.now in
     let short : leb (length bs) 65536 ≡ true = search rules in
-    let h = c.in-ok-accepted.ensures in
+    let h = c.in_ok-accepted.ensures in
     record {
-      text = same_bytes c.args.text.now c.add-line-2.new.text _ (text_of bs) c.add-line-2.result
+      text = same_bytes c.args.text.now c.add_line-2.new.text _ (text_of bs) c.add_line-2.result
           (ap (λ (n : ℕ). bodyText (whole bs) ++ endLine n 0) h.count ∙ sym (listed-text bs short))
-          (more (bodyText (whole bs)) (endLine c.in-ok-accepted.accepted 0) h.text c.add-line-2.ensures);
+          (more (bodyText (whole bs)) (endLine c.in_ok-accepted.accepted 0) h.text c.add_line-2.ensures);
       records = search rules;
     }

@@ -1,5 +1,4 @@
 use Rattle.std.proofs.Common.{◌≡◌, ℕ, ◌+◌, ◌≤◌, List, [], ◌++◌, length, Some, Ok, Err, string_bytes, sym, ap, ◌∙◌, subst, append-nil, arith, rules}
-use Rattle.std.proofs.lemmas.Result.{IfOk-from_err}
 use Rattle.refusals.specs.Refusals.{number_of}
 use Rattle.trace.specs.Contents.{contentOf, size_of}
 use Rattle.trace.specs.Format.{parse, behind, entry_of}
@@ -27,7 +26,7 @@ loop-entry-preserved c =
     let m = contentOf entry.«record» in
     let was = c.args.text.now in
     let mid = c.loop-entry.text in
-    let after = c.add-record.new.text in
+    let after = c.add_record.new.text in
     let g = c.loop-entry.invariant.0 in
     let same = c.loop-entry.invariant.1 in
     let found = c.in-Ok-Some.ensures in
@@ -35,15 +34,15 @@ loop-entry-preserved c =
     let e2 : parse bs at ≡ Ok (Some (entry_of entry)) = ap (λ (x : List ℕ). parse x at) (sym same) ∙ e in
     let h : at ≤ length bs = omega (arith, ap length same) in
     let s = next-text bs at n entry.offset m h e2 (string_bytes mid) (string_bytes was ++ bodyText (whole bs)) g.lines in
-    let w = step was mid after (bodyText (whole bs)) (recordLine (n + 1) m) (tail bs (at + size_of m) (n + 1)) s c.loop-entry.invariant.2 c.in-ok-add-record.ensures in
-    let q : c.next-entry.new.self.offset ≡ at + size_of m = found.offset ∙ ap (behind at) e in (
+    let w = step was mid after (bodyText (whole bs)) (recordLine (n + 1) m) (tail bs (at + size_of m) (n + 1)) s c.loop-entry.invariant.2 c.in_ok-add_record-in-Ok-Some.ensures in
+    let q : c.next_entry.new.self.offset ≡ at + size_of m = found.offset ∙ ap (behind at) e in (
       subst (λ (k : ℕ). Going (string_bytes was) (string_bytes after) bs k (n + 1)) (sym q) (goes bs at n entry.offset m h e2 (string_bytes was) (string_bytes mid) (string_bytes after) g w.0),
       found.trace ∙ same,
       w.1,
     )
 
-pub returns-in-err-add-record : goal.returns-in-err-add-record
-returns-in-err-add-record c =
+pub returns-in_err-add_record-in-Ok-Some-clause-text : goal.returns-in_err-add_record-in-Ok-Some-clause-text
+returns-in_err-add_record-in-Ok-Some-clause-text c =
     let bs = c.args.trace.now in
     let at = c.loop-entry.reader.offset in
     let n = c.loop-entry.accepted in
@@ -57,20 +56,17 @@ returns-in-err-add-record c =
     let e2 : parse bs at ≡ Ok (Some (entry_of entry)) = ap (λ (x : List ℕ). parse x at) (sym same) ∙ e in
     let h : at ≤ length bs = omega (arith, ap length same) in
     let s = next-text bs at n entry.offset m h e2 (string_bytes mid) (string_bytes was ++ bodyText (whole bs)) c.loop-entry.invariant.0.lines in
-    record {
-      text = stop was mid c.add-record.new.text (bodyText (whole bs)) (recordLine (n + 1) m) (tail bs (at + size_of m) (n + 1)) c.from-residual.result s c.loop-entry.invariant.2
-          c.in-err-add-record.ensures c.from-residual.ensures.0;
-      count = IfOk-from_err c.from-residual.result _ c.from-residual.ensures.0;
-    }
+    stop was mid c.add_record.new.text (bodyText (whole bs)) (recordLine (n + 1) m) (tail bs (at + size_of m) (n + 1)) c.from_residual.result s c.loop-entry.invariant.2
+          c.in_err-add_record-in-Ok-Some.ensures c.from_residual.ensures.0
 
-pub returns-in-err-add-bad : goal.returns-in-err-add-bad
-returns-in-err-add-bad c =
+pub returns-in_err-add_bad-in-Err-clause-text : goal.returns-in_err-add_bad-in-Err-clause-text
+returns-in_err-add_bad-in-Err-clause-text c =
     let bs = c.args.trace.now in
     let at = c.loop-entry.reader.offset in
     let k = number_of c.in-Err.refusal in
     let was = c.args.text.now in
     let mid = c.loop-entry.text in
-    let after = c.add-bad.new.text in
+    let after = c.add_bad.new.text in
     let found = c.in-Err.ensures in
     let e : parse c.loop-entry.reader.trace.now at ≡ Err k = sym found.answer in
     let e2 : parse bs at ≡ Err k = ap (λ (x : List ℕ). parse x at) (sym c.loop-entry.invariant.1) ∙ e in
@@ -78,9 +74,6 @@ returns-in-err-add-bad c =
     let line : tail bs at c.loop-entry.accepted ≡ badLine k at = ap (λ (w : Whole). recordLines (c.loop-entry.accepted + 1) w.records ++ endingLines w.ending) (rest-refused bs at k e2) in
     let s : string_bytes mid ++ (badLine k at ++ []) ≡ string_bytes was ++ bodyText (whole bs) =
     ap (λ (t : List ℕ). string_bytes mid ++ t) (append-nil (badLine k at) ∙ sym line) ∙ c.loop-entry.invariant.0.lines in
-    record {
-      text = stop was mid after (bodyText (whole bs)) (badLine k at) [] c.from-residual-in-err-add-bad.result s c.loop-entry.invariant.2
-          (same_bytes mid after (badLine k c.offset.result) (badLine k at) (Err c.in-err-add-bad.field-0.0) (ap (badLine k) q) c.in-err-add-bad.ensures)
-          c.from-residual-in-err-add-bad.ensures.0;
-      count = IfOk-from_err c.from-residual-in-err-add-bad.result _ c.from-residual-in-err-add-bad.ensures.0;
-    }
+    stop was mid after (bodyText (whole bs)) (badLine k at) [] c.from_residual-in_err-add_bad-in-Err.result s c.loop-entry.invariant.2
+          (same_bytes mid after (badLine k c.offset.result) (badLine k at) (Err c.in_err-add_bad-in-Err.field-0.0) (ap (badLine k) q) c.in_err-add_bad-in-Err.ensures)
+          c.from_residual-in_err-add_bad-in-Err.ensures.0

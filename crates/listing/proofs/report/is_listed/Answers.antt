@@ -3,4 +3,4 @@ use Rattle.trace.proofs.OneWay.{one_way}
 use Rattle.listing.proofs.report.is_listed.Goals as goal
 
 pub returns : goal.returns
-returns c = record { value = search rules; records = one_way c.args.trace.now (λ j. (c.type-inv.trace j).fits) }
+returns c = record { value = search rules; records = one_way c.args.trace.now (λ j. (c.type_inv.trace j).fits) }

@@ -7,18 +7,18 @@ pub returns-then-number-lt10 : goal.returns-then-number-lt10
 returns-then-number-lt10 t c =
     let n = c.args.number in
     let h : n < 10 = omega arith in
-    same_bytes _ _ _ _ _ (ap (λ (d : ℕ). d ∷ []) c.digit.ensures ∙ sym (decimal_digit n h)) c.add-char.ensures
+    same_bytes _ _ _ _ _ (ap (λ (d : ℕ). d ∷ []) c.digit.ensures ∙ sym (decimal_digit n h)) c.add_char.ensures
 
-pub returns-in-err-add-number : goal.returns-in-err-add-number
-returns-in-err-add-number t c =
+pub returns-in_err-add_number : goal.returns-in_err-add_number
+returns-in_err-add_number t c =
     let n = c.args.number in
     let h : 10 ≤ n = omega arith in
     same_bytes _ _ _ _ _ (sym (decimal_step n h c.ranges.number.fits))
-    (halted (decimal (n / 10)) ((48 + n % 10) ∷ []) c.from-residual.result c.in-err-add-number.ensures c.from-residual.ensures.0)
+    (halted (decimal (n / 10)) ((48 + n % 10) ∷ []) c.from_residual.result c.in_err-add_number.ensures c.from_residual.ensures.0)
 
 pub returns : goal.returns
 returns t c =
     let n = c.args.number in
     let h : 10 ≤ n = omega arith in
     same_bytes _ _ _ _ _ (ap (λ (d : ℕ). decimal (n / 10) ++ (d ∷ [])) c.digit-2.ensures ∙ sym (decimal_step n h c.ranges.number.fits))
-    (more (decimal (n / 10)) (c.digit-2.result ∷ []) c.in-ok-add-number.ensures c.add-char-2.ensures)
+    (more (decimal (n / 10)) (c.digit-2.result ∷ []) c.in_ok-add_number.ensures c.add_char-2.ensures)

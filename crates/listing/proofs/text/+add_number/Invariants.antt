@@ -1,4 +1,4 @@
 use Rattle.listing.proofs.text.+add_number.Given as goal
 
-abbrev pub decreases-add-number : goal.decreases-add-number
-decreases-add-number l = l.number
+abbrev pub decreases-add_number : goal.decreases-add_number
+decreases-add_number l = l.number

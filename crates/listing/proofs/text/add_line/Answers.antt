@@ -8,15 +8,15 @@ use Rattle.listing.proofs.Adding.{stop, step, onward}
 use Rattle.listing.proofs.Spacing.{next-piece}
 use Rattle.listing.proofs.text.add_line.Goals as goal
 
-pub returns-in-err-add-spaced : goal.returns-in-err-add-spaced
-returns-in-err-add-spaced c =
+pub returns-in_err-add_spaced : goal.returns-in_err-add_spaced
+returns-in_err-add_spaced c =
     let ps = c.args.pieces.now in
     let i = c.loop-i.i in
     let text = string_bytes c.loop-i.text in
     let h : i < length ps = omega arith in
     let s = ap (λ (t : List ℕ). text ++ t) (sym (next-piece ps i (Word SetUp) h)) ∙ c.loop-i.invariant.0 in
-    stop c.args.text.now c.loop-i.text c.add-spaced.new.text (lineText ps) (gap i ++ pieceText (get_or ps i (Word SetUp))) (spaced (i + 1) (drop (i + 1) ps) ++ (10 ∷ []))
-    c.from-residual.result s c.loop-i.invariant.1 c.in-err-add-spaced.ensures c.from-residual.ensures.0
+    stop c.args.text.now c.loop-i.text c.add_spaced.new.text (lineText ps) (gap i ++ pieceText (get_or ps i (Word SetUp))) (spaced (i + 1) (drop (i + 1) ps) ++ (10 ∷ []))
+    c.from_residual.result s c.loop-i.invariant.1 c.in_err-add_spaced.ensures c.from_residual.ensures.0
 
 pub loop-i-preserved : goal.loop-i-preserved
 loop-i-preserved c =
@@ -25,8 +25,8 @@ loop-i-preserved c =
     let text = string_bytes c.loop-i.text in
     let h : i < length ps = omega arith in
     let s = ap (λ (t : List ℕ). text ++ t) (sym (next-piece ps i (Word SetUp) h)) ∙ c.loop-i.invariant.0 in
-    step c.args.text.now c.loop-i.text c.add-spaced.new.text (lineText ps) (gap i ++ pieceText (get_or ps i (Word SetUp))) (spaced (i + 1) (drop (i + 1) ps) ++ (10 ∷ []))
-    s c.loop-i.invariant.1 c.in-ok-add-spaced.ensures
+    step c.args.text.now c.loop-i.text c.add_spaced.new.text (lineText ps) (gap i ++ pieceText (get_or ps i (Word SetUp))) (spaced (i + 1) (drop (i + 1) ps) ++ (10 ∷ []))
+    s c.loop-i.invariant.1 c.in_ok-add_spaced.ensures
 
 pub returns : goal.returns
 returns c =
@@ -34,4 +34,4 @@ returns c =
     let i = c.loop-i.i in
     let text = string_bytes c.loop-i.text in
     let e = ap (λ (t : List Piece). text ++ (spaced i t ++ (10 ∷ []))) (sym (drop_all i ps (omega arith))) in
-    onward c.args.text.now c.loop-i.text c.add-char.new.text (lineText ps) (10 ∷ []) c.add-char.result (e ∙ c.loop-i.invariant.0) c.loop-i.invariant.1 c.add-char.ensures
+    onward c.args.text.now c.loop-i.text c.add_char.new.text (lineText ps) (10 ∷ []) c.add_char.result (e ∙ c.loop-i.invariant.0) c.loop-i.invariant.1 c.add_char.ensures

@@ -8,4 +8,4 @@ pub returns : goal.returns
 returns c =
     let p = pieceText c.args.piece in
     let later : c.args.i ≡ 0 → ⊥ = omega arith in
-    same_bytes _ _ _ _ _ (ap (λ (g : List ℕ). g ++ p) (gap-later c.args.i later)) (more (32 ∷ []) p c.in-ok-add-char.ensures c.add-piece-2.ensures)
+    same_bytes _ _ _ _ _ (ap (λ (g : List ℕ). g ++ p) (gap-later c.args.i later)) (more (32 ∷ []) p c.in_ok-add_char.ensures c.add_piece-2.ensures)

@@ -12,15 +12,15 @@ pub returns : goal.returns
 returns c =
     let bs = c.args.trace.now in
     let at = c.args.offset in
-    let k = c.in-ok-kind.kind in
+    let k = c.in_ok-kind.kind in
     let m = contentOf c.decoded-record.result in
-    let b = c.split-at.ensures.back in
+    let b = c.split_at.ensures.back in
     let lt : at < length bs = omega arith in
-    let e = known-kind (kind_at (get_or bs at 0)) k c.in-ok-kind.ensures in
+    let e = known-kind (kind_at (get_or bs at 0)) k c.in_ok-kind.ensures in
     let l : bodyLen k ≤ length (drop (at + 1) bs) = omega (arith, ap length b) in
     let d : m ≡ decode k (drop (at + 1) bs) = c.decoded-record.ensures.content ∙ ap (decode k) b in
     let ks : k ≡ kind_of m = sym (ap kind_of d ∙ kind-decoded k (drop (at + 1) bs)) in
-    let u : Bytes bs = λ j. (c.type-inv.trace j).fits in
+    let u : Bytes bs = λ j. (c.type_inv.trace j).fits in
     record {
       answer = ap (λ (x : Content). Ok (Some (at, x))) d ∙ sym (parse-found bs at k lt e l);
       stands = record {

@@ -9,17 +9,17 @@ use Rattle.trace.specs.Writing.{copiedTo, copied}
 use Rattle.trace.proofs.Rooms.{copy-refused}
 use Rattle.trace.proofs.round.copy_record.Goals as goal
 
-pub returns-in-err-write-to : goal.returns-in-err-write-to
-returns-in-err-write-to c =
+pub returns-in_err-write_to : goal.returns-in_err-write_to
+returns-in_err-write_to c =
     let bs = c.args.trace.now in
     let place = c.args.place in
     let was = c.args.buffer.now in
     let entry = c.in-Some.entry in
-    let w = c.in-err-write-to.ensures in
+    let w = c.in_err-write_to.ensures in
     let e : parse bs c.args.offset ≡ Ok (Some (entry_of entry)) =
-    sym c.in-ok-entry.ensures.answer ∙ ap (λ (x : Option Entry). Ok (option_map entry_of x)) c.in-Some.is in
-    let r = copy-refused bs entry.offset place (number_of c.in-err-write-to.field-0.0) (contentOf entry.«record») was c.write-to.new.buffer w.answer w.buffer in
-    let p = err_from_is_err_and c.from-residual-in-err-write-to.result c.from-residual-in-err-write-to.ensures.1 in
+    sym c.in_ok-entry.ensures.answer ∙ ap (λ (x : Option Entry). Ok (option_map entry_of x)) c.in-Some.is in
+    let r = copy-refused bs entry.offset place (number_of c.in_err-write_to.field-0.0) (contentOf entry.«record») was c.write_to.new.buffer w.answer w.buffer in
+    let p = err_from_is_err_and c.from_residual-in_err-write_to.result c.from_residual-in_err-write_to.ensures.1 in
     rw (p.1, p.2) record {
       answer = r.0 ∙ ap (λ (f : Found). copiedTo f place was) (sym e);
       buffer = r.1 ∙ ap (λ (f : Found). copied bs f place was) (sym e);

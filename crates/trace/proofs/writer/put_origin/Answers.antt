@@ -5,4 +5,4 @@ use Rattle.trace.proofs.writer.put_origin.Goals as goal
 pub returns : goal.returns
 returns c =
     let h : c.args.place ≤ length c.args.buffer.now = omega arith in
-    record { place = search rules; after = more c.put-behind-node.ensures.after c.put-behind-node.ensures.place h c.put-u64.ensures.after }
+    record { place = search rules; after = more c.put-behind_node.ensures.after c.put-behind_node.ensures.place h c.put_u64.ensures.after }

@@ -5,4 +5,4 @@ use Rattle.trace.proofs.writer.put_receipt.Goals as goal
 pub returns : goal.returns
 returns c =
     let h : c.args.place ≤ length c.args.buffer.now = omega arith in
-    record { place = search rules; after = more c.put-origin-behind-raw.ensures.after c.put-origin-behind-raw.ensures.place h c.put-u32.ensures.after }
+    record { place = search rules; after = more c.put_origin-behind_raw.ensures.after c.put_origin-behind_raw.ensures.place h c.put_u32.ensures.after }

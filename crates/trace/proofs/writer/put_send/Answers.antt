@@ -7,5 +7,5 @@ returns c =
     let h : c.args.place ≤ length c.args.buffer.now = omega arith in
     record {
       place = search rules;
-      after = more (more c.put-origin-behind-raw.ensures.after c.put-origin-behind-raw.ensures.place h c.put-behind-to.ensures.after) (omega arith) h c.put-u32.ensures.after;
+      after = more (more c.put_origin-behind_raw.ensures.after c.put_origin-behind_raw.ensures.place h c.put-behind_to.ensures.after) (omega arith) h c.put_u32.ensures.after;
     }

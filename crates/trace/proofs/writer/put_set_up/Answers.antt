@@ -7,5 +7,5 @@ returns c =
     let h : c.args.place ≤ length c.args.buffer.now = omega arith in
     record {
       place = search rules;
-      after = more (more c.put-behind-kind.ensures.after c.put-behind-kind.ensures.place h c.put-u32-behind-lead.ensures.after) (omega arith) h c.put-u32.ensures.after;
+      after = more (more c.put-behind_kind.ensures.after c.put-behind_kind.ensures.place h c.put_u32-behind_lead.ensures.after) (omega arith) h c.put_u32.ensures.after;
     }

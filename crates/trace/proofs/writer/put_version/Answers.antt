@@ -9,5 +9,5 @@ returns c =
     let f : SFits w32 c.args.value = search rules in
     record {
       place = search rules;
-      after = more (more c.put-origin-behind-raw.ensures.after c.put-origin-behind-raw.ensures.place h c.put-behind-key.ensures.after) (omega arith) h (simp to_z-of_z at c.put-i32.ensures.after);
+      after = more (more c.put_origin-behind_raw.ensures.after c.put_origin-behind_raw.ensures.place h c.put-behind_key.ensures.after) (omega arith) h (simp to_z-of_z at c.put_i32.ensures.after);
     }

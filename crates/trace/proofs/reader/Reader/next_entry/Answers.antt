@@ -6,11 +6,11 @@ use Rattle.trace.specs.Format.{entry_of}
 use Rattle.trace.proofs.Parsing.{parse-within}
 use Rattle.trace.proofs.reader.Reader.next_entry.Goals as goal
 
-pub invariant-of-self : goal.invariant-of-self
-invariant-of-self c =
+pub invariant_of-self : goal.invariant_of-self
+invariant_of-self c =
     let bs = c.args.self.now.trace.now in
     let at = c.args.self.now.offset in
     let entry = c.in-Some.entry in
-    let e = sym c.in-ok-found.ensures.answer ∙ ap (λ (x : Option Entry). Ok (option_map entry_of x)) c.in-Some.is in
+    let e = sym c.in_ok-found.ensures.answer ∙ ap (λ (x : Option Entry). Ok (option_map entry_of x)) c.in-Some.is in
     let w = parse-within bs at entry.offset (contentOf entry.«record») e in
-    (omega (arith, w), tt)
+    omega (arith, w)

@@ -13,9 +13,9 @@ returns c =
     let was = c.args.buffer.now in
     let h : place + size_of m ≤ length was = omega arith in
     let k : c.byte.result ≡ byte_of (kind_of m) = c.byte.ensures ∙ ap byte_of c.kind.ensures in
-    let w = more c.put-behind-kind.ensures.after c.put-behind-kind.ensures.place (omega arith) c.put-body.ensures.after in
+    let w = more c.put-behind_kind.ensures.after c.put-behind_kind.ensures.place (omega arith) c.put_body.ensures.after in
     record {
       answer = ap Ok (omega arith) ∙ sym (written-to-room m place was h);
       buffer = w.is ∙ ap (λ (b : ℕ). over place (b ∷ body_of m) was) k ∙ sym (written-room m place was h);
-      ranges = c.put-body.ensures.ranges;
+      ranges = c.put_body.ensures.ranges;
     }

@@ -43,7 +43,12 @@ number_of NotSettled = 18
 -- the caller's list or buffer is too short
 number_of NoRoom = 19
 
--- what a call answered: its value, seen through `view`, or the number of its refusal
-abbrev pub shown : {X Y : Type 0} → (X → Y) → Result X Refusal → Result Y ℕ
-shown view (Ok x) = Ok (view x)
-shown view (Err e) = Err (number_of e)
+-- what a call answered: its value, or the number of its refusal
+abbrev pub shown : {X : Type 0} → Result X Refusal → Result X ℕ
+shown (Ok x) = Ok x
+shown (Err e) = Err (number_of e)
+
+-- an answer whose value is seen through `view`
+abbrev pub result_map : {X Y E : Type 0} → (X → Y) → Result X E → Result Y E
+result_map view (Ok x) = Ok (view x)
+result_map view (Err e) = Err e

@@ -1,7 +1,7 @@
-pub mod Range
+pub mod Limits
+pub mod Reading
 pub mod Settings
-pub mod Readings
-pub mod Banks
+pub mod Bank
 pub mod TraceClocks
 pub mod TickCounters
 pub mod OffsetLayer

@@ -1,28 +1,28 @@
 -- The never-backwards layer: answers the larger of the reading below and its own high.
 use Rattle.std.specs.Prelude.{ℕ, max, List, Some, None, Ok, Err, Option, Result, slice_index_or}
-use Rattle.clocks.specs.Banks.{Clock, Meaning}
+use Rattle.clocks.specs.Bank.{Clock, Meaning}
 use Rattle.clocks.specs.declared.reading.Reading.{Reading}
 
 -- it refuses exactly as the bank below does
-abbrev pub risingAnswer : ℕ → Result ℕ ℕ → Result ℕ ℕ
-risingAnswer high (Ok r) = Ok (max r high)
-risingAnswer high (Err e) = Err e
+abbrev pub rising_answer : ℕ → Result ℕ ℕ → Result ℕ ℕ
+rising_answer high (Ok reading) = Ok (max reading high)
+rising_answer high (Err number) = Err number
 
-abbrev pub risingClock : ℕ → Clock → Clock
-risingClock high below = record {
+abbrev pub rising_clock : ℕ → Clock → Clock
+rising_clock high below = record {
   high = high;
   backstep = 0;
-  answer = λ raw. risingAnswer high (below.answer raw);
+  answer = λ raw. rising_answer high (below.answer raw);
 }
 
 -- the high that is kept: 0 if nothing was taken
-abbrev pub keptHigh : Option Reading → ℕ
-keptHigh (Some r) = r.millis
-keptHigh None = 0
+abbrev pub kept_high : Option Reading → ℕ
+kept_high (Some reading) = reading.millis
+kept_high None = 0
 
-abbrev pub risingMeaning : List (Option Reading) → Meaning → Meaning
-risingMeaning highs below = λ node. risingClock (keptHigh (slice_index_or highs node None)) (below node)
+abbrev pub rising_meaning : List (Option Reading) → Meaning → Meaning
+rising_meaning highs below = λ node. rising_clock (kept_high (slice_index_or highs node None)) (below node)
 
 -- its own highs start at 0
-abbrev pub freshRising : Meaning → Meaning
-freshRising below = λ node. risingClock 0 (below node)
+abbrev pub fresh_rising : Meaning → Meaning
+fresh_rising below = λ node. rising_clock 0 (below node)

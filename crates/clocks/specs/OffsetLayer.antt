@@ -1,39 +1,39 @@
 -- The offset layer: adds a signed number of milliseconds for each node to the bank below.
 use Rattle.std.specs.Prelude.{ℕ, zero, suc, List, ℤ, pos, negsuc, ◌+ℤ◌, Ok, Err, Result, slice_index_or}
-use Rattle.clocks.specs.Range.{ranged}
-use Rattle.clocks.specs.Banks.{Clock, Meaning}
+use Rattle.clocks.specs.Limits.{reading_of}
+use Rattle.clocks.specs.Bank.{Clock, Meaning}
 use Rattle.clocks.specs.declared.offset.Offset.{Offset}
 
 -- a sum as a reading; 8 outside the range
-abbrev pub summed : ℤ → Result ℕ ℕ
-summed (pos n) = ranged n
-summed (negsuc n) = Err 8
+abbrev pub sum_reading : ℤ → Result ℕ ℕ
+sum_reading (pos millis) = reading_of millis
+sum_reading (negsuc _) = Err 8
 
 -- the lower bank's refusals come first
-abbrev pub offsetAnswer : ℤ → Result ℕ ℕ → Result ℕ ℕ
-offsetAnswer offset (Ok r) = summed (pos r +ℤ offset)
-offsetAnswer offset (Err e) = Err e
+abbrev pub offset_answer : ℤ → Result ℕ ℕ → Result ℕ ℕ
+offset_answer offset (Ok reading) = sum_reading (pos reading +ℤ offset)
+offset_answer offset (Err number) = Err number
 
 -- a negative sum counts as 0
-abbrev pub floored : ℤ → ℕ
-floored (pos n) = n
-floored (negsuc n) = 0
+abbrev pub floor_at_zero : ℤ → ℕ
+floor_at_zero (pos millis) = millis
+floor_at_zero (negsuc _) = 0
 
 -- 0 if the high below is 0, else the sum
-abbrev pub offsetHigh : ℤ → ℕ → ℕ
-offsetHigh offset zero = 0
-offsetHigh offset (suc h) = floored (pos (suc h) +ℤ offset)
+abbrev pub offset_high : ℤ → ℕ → ℕ
+offset_high offset zero = 0
+offset_high offset (suc below) = floor_at_zero (pos (suc below) +ℤ offset)
 
-abbrev pub offsetClock : ℤ → Clock → Clock
-offsetClock offset below = record {
-  high = offsetHigh offset below.high;
+abbrev pub offset_clock : ℤ → Clock → Clock
+offset_clock offset below = record {
+  high = offset_high offset below.high;
   backstep = below.backstep;
-  answer = λ raw. offsetAnswer offset (below.answer raw);
+  answer = λ raw. offset_answer offset (below.answer raw);
 }
 
 -- what stands for the nodes past the settings
-abbrev pub noOffset : Offset
-noOffset = record { millis = pos 0; least = record { le = tt }; most = record { le = tt } }
+abbrev pub zero_offset : Offset
+zero_offset = record { millis = pos 0; least = record { le = tt }; most = record { le = tt } }
 
-abbrev pub offsetMeaning : List Offset → Meaning → Meaning
-offsetMeaning offsets below = λ node. offsetClock (slice_index_or offsets node noOffset).millis (below node)
+abbrev pub offset_meaning : List Offset → Meaning → Meaning
+offset_meaning offsets below = λ node. offset_clock (slice_index_or offsets node zero_offset).millis (below node)

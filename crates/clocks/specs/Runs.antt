@@ -1,9 +1,9 @@
 -- Sequences of takes, and what holds of every one.
 use Rattle.std.specs.Prelude.{◌≡◌, ℕ, ◌+◌, ◌<◌, ◌≤◌, List, [], ◌∷◌, ◌++◌, length, Ok, Err, Result, slice_index_or}
-use Rattle.refusals.specs.Refusals.{shown}
+use Rattle.refusals.specs.Refusals.{result_map, shown}
 use Rattle.refusals.specs.declared.refusal.Refusal.{Refusal}
-use Rattle.clocks.specs.Banks.{Meaning, Lawful, Takes}
-use Rattle.clocks.specs.Readings.{millisOf}
+use Rattle.clocks.specs.Bank.{Meaning, IsLawful, Taken, look_answer}
+use Rattle.clocks.specs.Reading.{millis_of}
 use Rattle.clocks.specs.declared.reading.Reading.{Reading}
 use Rattle.clocks.specs.declared.sample.Sample.{Sample}
 
@@ -13,35 +13,41 @@ pub record Take : Type 0 where
   pub raw : ℕ
   pub answer : Result ℕ ℕ
 
--- The samples that were asked, each paired with its answer.
-abbrev pub paired : List Sample → List (Result Reading Refusal) → List Take
-paired [] answers = []
-paired (s ∷ ss) [] = []
-paired (s ∷ ss) (a ∷ answers) = record { node = s.node; raw = s.raw.0; answer = shown millisOf a } ∷ paired ss answers
+-- the samples that were asked, each with its answer
+abbrev pub takes_of : List Sample → List (Result Reading Refusal) → List Take
+takes_of [] answers = []
+takes_of (s ∷ samples) [] = []
+takes_of (s ∷ samples) (a ∷ answers) =
+    record { node = s.node; raw = s.raw.0; answer = shown (result_map millis_of a) } ∷ takes_of samples answers
 
--- A bank answers these takes one after another, which leads it from the meaning `was` to `is`. Its law holds all along.
+-- A bank that means `old` answers this take, and then means `new`.
+pub record Step (old : Meaning) (take : Take) (new : Meaning) : Type 0 where
+  pub answer : take.answer ≡ look_answer old take.node take.raw
+  pub change : Taken take.answer take.node old new
+
+-- A bank answers these takes one after another, which leads it from the meaning `old` to `new`. Its law holds all along.
 abbrev pub Run : Meaning → List Take → Meaning → Type 0
-Run was [] is = Lawful was × (is ≡ was)
-Run was (t ∷ ts) is =
-    Lawful was × ((next : Meaning) × Takes t.answer t.node t.raw was next × Run next ts is)
+Run old [] new = IsLawful old × (new ≡ old)
+Run old (t ∷ takes) new = IsLawful old × ((next : Meaning) × Step old t next × Run next takes new)
 
--- The take at a place, counted from 0. There is no reading behind the last.
-abbrev pub takeAt : List Take → ℕ → Take
-takeAt ts i = slice_index_or ts i (record { node = 0; raw = 0; answer = Err 0 })
+-- the take at a place, counted from 0; there is no reading behind the last
+abbrev pub take_at : List Take → ℕ → Take
+take_at takes i = slice_index_or takes i (record { node = 0; raw = 0; answer = Err 0 })
 
 -- No reading is below an earlier one of the same node by more than the node's backstep.
 abbrev pub KeepsBacksteps : (ℕ → ℕ) → List Take → Type 0
-KeepsBacksteps backstep ts =
+KeepsBacksteps backstep takes =
     (i j earlier later : ℕ) → i < j
-    → (takeAt ts i).node ≡ (takeAt ts j).node
-    → (takeAt ts i).answer ≡ Ok earlier
-    → (takeAt ts j).answer ≡ Ok later
-    → earlier ≤ later + backstep (takeAt ts j).node
+    → (take_at takes i).node ≡ (take_at takes j).node
+    → (take_at takes i).answer ≡ Ok earlier
+    → (take_at takes j).answer ≡ Ok later
+    → earlier ≤ later + backstep (take_at takes j).node
 
--- Every sample was taken: the list `before` gained an answer for each, as a bank that meant `was` gives them and then means `is`.
-pub record TookAll (was is : Meaning) (samples : List Sample) (before after : List (Result Reading Refusal)) : Type 0 where
+-- Every sample was taken: the list `before` gained an answer for each, as a bank that meant `old` gives them and then means
+-- `new`.
+pub record TookAll (old new : Meaning) (samples : List Sample) (before after : List (Result Reading Refusal)) : Type 0 where
   pub gained : List (Result Reading Refusal)
   pub list : after ≡ before ++ gained
   pub each : length gained ≡ length samples
-  pub run : Run was (paired samples gained) is
-  pub law : KeepsBacksteps (λ node. (was node).backstep) (paired samples gained)
+  pub run : Run old (takes_of samples gained) new
+  pub law : KeepsBacksteps (λ node. (old node).backstep) (takes_of samples gained)

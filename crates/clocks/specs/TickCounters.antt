@@ -1,28 +1,30 @@
 -- Tick counters: each node has a base and a step.
-use Rattle.std.specs.Prelude.{ℕ, ◌+◌, ◌*◌, cond, List, Ok, Err, Result, nat_le, nat_lt, slice_index, slice_index_or}
-use Rattle.std.proofs.Common.{arith}
-use Rattle.clocks.specs.Range.{isReading}
-use Rattle.clocks.specs.Banks.{Clock, Meaning}
+use Rattle.std.specs.Prelude.{ℕ, ◌+◌, ◌*◌, if◌then◌else◌, List, Ok, Err, Result, nat_le, nat_lt, slice_index, slice_index_or}
+use Rattle.std.proofs.Common.{lit≤}
+use Rattle.clocks.specs.Limits.{is_reading}
+use Rattle.clocks.specs.Bank.{Clock, Meaning}
 use Rattle.clocks.specs.declared.tick.Tick.{Tick}
 
--- 8 outside the range of readings, then 9 below the high
-abbrev pub tickChecked : ℕ → ℕ → Result ℕ ℕ
-tickChecked high n = cond (isReading n) (cond (nat_lt n high) (Err 9) (Ok n)) (Err 8)
+-- the highest raw number of a tick counter, which counts in 32 bits
+abbrev pub max_count : ℕ
+max_count = 4294967295
 
--- base + raw × step, for a raw number of 32 bits; 8 for a larger one
+-- base + raw × step; 8 for a raw number above 32 bits or a result that is no reading, then 9 below the high
 abbrev pub tick_answer : Tick → ℕ → ℕ → Result ℕ ℕ
-tick_answer t high raw = cond (nat_le raw 4294967295) (tickChecked high (t.base + raw * t.step)) (Err 8)
+tick_answer tick high raw =
+    let millis : ℕ = tick.base + raw * tick.step in
+    (if nat_le raw max_count then (if is_reading millis then (if nat_lt millis high then Err 9 else Ok millis) else Err 8) else Err 8)
 
-abbrev pub tickClock : Tick → ℕ → Clock
-tickClock t high = record { high = high; backstep = 0; answer = tick_answer t high }
+abbrev pub tick_clock : Tick → ℕ → Clock
+tick_clock tick high = record { high = high; backstep = 0; answer = tick_answer tick high }
 
 -- what stands for the nodes past the settings
-abbrev pub noTick : Tick
-noTick = record { base = 0; step = 1; low = omega arith; positive = omega arith; short = omega arith }
+abbrev pub absent_tick : Tick
+absent_tick = record { base = 0; step = 1; low = lit≤ tt; positive = lit≤ tt; short = lit≤ tt }
 
-abbrev pub tickMeaning : List Tick → List ℕ → Meaning
-tickMeaning ticks highs = λ node. tickClock (slice_index_or ticks node noTick) (slice_index highs node)
+abbrev pub tick_meaning : List Tick → List ℕ → Meaning
+tick_meaning ticks highs = λ node. tick_clock (slice_index_or ticks node absent_tick) (slice_index highs node)
 
 -- nothing was taken yet
-abbrev pub freshTicks : List Tick → Meaning
-freshTicks ticks = λ node. tickClock (slice_index_or ticks node noTick) 0
+abbrev pub fresh_ticks : List Tick → Meaning
+fresh_ticks ticks = λ node. tick_clock (slice_index_or ticks node absent_tick) 0

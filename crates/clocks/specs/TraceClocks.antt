@@ -1,19 +1,19 @@
 -- Trace clocks: the raw number is the reading.
-use Rattle.std.specs.Prelude.{ℕ, ◌+◌, cond, List, Ok, Err, Result, nat_lt, slice_index}
-use Rattle.clocks.specs.Range.{isReading}
-use Rattle.clocks.specs.Banks.{Clock, Meaning}
+use Rattle.std.specs.Prelude.{ℕ, ◌+◌, if◌then◌else◌, List, Ok, Err, Result, nat_lt, slice_index}
+use Rattle.clocks.specs.Limits.{is_reading}
+use Rattle.clocks.specs.Bank.{Clock, Meaning}
 
 -- 8 outside the range of readings, then 9 if it fell below the high by more than the backstep
-abbrev pub traceAnswer : ℕ → ℕ → ℕ → Result ℕ ℕ
-traceAnswer high backstep raw =
-    cond (isReading raw) (cond (nat_lt (raw + backstep) high) (Err 9) (Ok raw)) (Err 8)
+abbrev pub trace_answer : ℕ → ℕ → ℕ → Result ℕ ℕ
+trace_answer high backstep raw =
+    (if is_reading raw then (if nat_lt (raw + backstep) high then Err 9 else Ok raw) else Err 8)
 
-abbrev pub traceClock : ℕ → ℕ → Clock
-traceClock high backstep = record { high = high; backstep = backstep; answer = traceAnswer high backstep }
+abbrev pub trace_clock : ℕ → ℕ → Clock
+trace_clock high backstep = record { high = high; backstep = backstep; answer = trace_answer high backstep }
 
-abbrev pub traceMeaning : List ℕ → ℕ → Meaning
-traceMeaning highs backstep = λ node. traceClock (slice_index highs node) backstep
+abbrev pub trace_meaning : List ℕ → ℕ → Meaning
+trace_meaning highs backstep = λ node. trace_clock (slice_index highs node) backstep
 
 -- nothing was taken yet
-abbrev pub freshTrace : ℕ → Meaning
-freshTrace backstep = λ node. traceClock 0 backstep
+abbrev pub fresh_trace : ℕ → Meaning
+fresh_trace backstep = λ node. trace_clock 0 backstep

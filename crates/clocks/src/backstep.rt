@@ -1,7 +1,7 @@
 // How far below its high a clock may still read.
 ghost use Rattle.std.specs.Prelude.{◌≡◌, ◌≤◌};
-ghost use Rattle.clocks.specs.Settings.{backstepTested, dayLong};
-ghost use Rattle.refusals.specs.Refusals.{shown};
+ghost use Rattle.clocks.specs.Limits.{day_millis};
+ghost use Rattle.refusals.specs.Refusals.{result_map, shown};
 
 use refusals::refusal::Refusal;
 
@@ -9,16 +9,18 @@ use refusals::refusal::Refusal;
 #[derive(Clone, Copy, Debug)]
 pub struct Backstep {
     pub(crate) millis: u32,
-    ghost limited: { millis ≤ dayLong },
+    ghost limited: { millis ≤ day_millis },
 }
 
 impl Backstep {
+    ghost use Rattle.clocks.specs.Settings.{backstep_of, backstep_setting};
+
     // A day, in milliseconds.
     pub const MAX: u32 = 86_400_000;
 
     // Refused with 4 above a day.
     pub fn new(millis: u32) -> Result<Backstep, Refusal>
-        ensures { shown (λ x. x.millis) result ≡ backstepTested millis }
+        ensures { shown (result_map backstep_of result) ≡ backstep_setting millis }
     {
         if millis > Backstep::MAX {
             return Err(Refusal::SettingOutOfRange);

@@ -1,8 +1,8 @@
 // What every clock bank does.
 ghost use Rattle.std.specs.Prelude.{◌≡◌};
-ghost use Rattle.clocks.specs.Banks.{Lawful, Meaning, Takes, looked};
-ghost use Rattle.clocks.specs.Readings.{millisOf};
-ghost use Rattle.refusals.specs.Refusals.{shown};
+ghost use Rattle.clocks.specs.Bank.{IsLawful, Meaning, Taken, look_answer};
+ghost use Rattle.clocks.specs.Reading.{millis_of};
+ghost use Rattle.refusals.specs.Refusals.{result_map, shown};
 
 use crate::reading::{Raw, Reading};
 use refusals::refusal::Refusal;
@@ -17,12 +17,13 @@ pub trait ClockBank {
 
     // The node's reading at this raw number: refused with 7 for a node above 15, else a reading, 8 or 9.
     fn look(&self, node: u8, raw: Raw) -> Result<Reading, Refusal>
-        ensures { shown millisOf result ≡ looked (meaning self.now) node raw.0 };
+        ensures { shown (result_map millis_of result) ≡ look_answer (meaning self.now) node raw.0 };
 
     // The same answer. Where it is a reading, the node's high becomes the larger of itself and the reading.
     fn take(&mut self, node: u8, raw: Raw) -> Result<Reading, Refusal>
-        ensures { Takes (shown millisOf result) node raw.0 (meaning self.old) (meaning self.new) };
+        ensures answer { shown (result_map millis_of result) ≡ look_answer (meaning self.old) node raw.0 }
+        ensures change { Taken (shown (result_map millis_of result)) node (meaning self.old) (meaning self.new) };
 
     // No reading that is answered is below the high less the backstep.
-    ghost lawful: { (bank : Self) → Lawful (meaning bank) };
+    ghost lawful: { (bank : Self) → IsLawful (meaning bank) };
 }

@@ -1,10 +1,10 @@
 // The never-backwards layer: answers the larger of the reading below and its own high.
 ghost use Rattle.std.specs.Prelude.{◌≡◌, length};
-ghost use Rattle.clocks.specs.Banks.{TakenBelow, Takes};
-ghost use Rattle.clocks.specs.NeverBackwards.{freshRising, risingMeaning};
-ghost use Rattle.clocks.specs.Readings.{millisOf};
-ghost use Rattle.refusals.specs.Refusals.{shown};
-ghost use Rattle.std.proofs.Common.{rules, arith};
+ghost use Rattle.clocks.specs.Bank.{Taken, TakenBelow, look_answer};
+ghost use Rattle.clocks.specs.NeverBackwards.{fresh_rising, rising_meaning};
+ghost use Rattle.clocks.specs.Reading.{millis_of};
+ghost use Rattle.refusals.specs.Refusals.{result_map, shown};
+ghost use Rattle.std.proofs.Common.{rules};
 
 use crate::bank::{ClockBank, NODES};
 use crate::reading::{Raw, Reading};
@@ -21,7 +21,7 @@ pub struct NeverBackwards<B> {
 impl<B: ClockBank> NeverBackwards<B> {
     // Its own highs start at 0, whatever was taken from the bank below.
     pub fn new(below: B) -> NeverBackwards<B>
-        ensures fresh { risingMeaning result.highs (B.ClockBank.meaning result.below) ≡ freshRising (B.ClockBank.meaning below) }
+        ensures fresh { ⟦<NeverBackwards<B> as ClockBank>⟧.meaning result ≡ fresh_rising (B.meaning below) }
         ensures below { result.below ≡ below }
     {
         NeverBackwards {
@@ -32,9 +32,9 @@ impl<B: ClockBank> NeverBackwards<B> {
 }
 
 impl<B: ClockBank> ClockBank for NeverBackwards<B> {
-    ghost meaning = { λ s. risingMeaning s.highs (B.ClockBank.meaning s.below) };
+    ghost meaning = { λ s. rising_meaning s.highs (B.meaning s.below) };
 
-    ghost lawful = { first_of (Prim.search rules, Prim.grind (arith, Self.row.coded.inj)) };
+    ghost lawful = { Prim.search rules };
 
     fn look(&self, node: u8, raw: Raw) -> Result<Reading, Refusal> {
         if usize::from(node) >= NODES {
@@ -50,8 +50,9 @@ impl<B: ClockBank> ClockBank for NeverBackwards<B> {
 
     // The bank below is taken from as well.
     fn take(&mut self, node: u8, raw: Raw) -> Result<Reading, Refusal>
-        ensures bank { Takes (shown millisOf result) node raw.0 (risingMeaning self.old.highs (B.ClockBank.meaning self.old.below)) (risingMeaning self.new.highs (B.ClockBank.meaning self.new.below)) }
-        ensures below { TakenBelow (shown millisOf result) node raw.0 (B.ClockBank.meaning self.old.below) (B.ClockBank.meaning self.new.below) }
+        ensures answer { shown (result_map millis_of result) ≡ look_answer (⟦<NeverBackwards<B> as ClockBank>⟧.meaning self.old) node raw.0 }
+        ensures change { Taken (shown (result_map millis_of result)) node (⟦<NeverBackwards<B> as ClockBank>⟧.meaning self.old) (⟦<NeverBackwards<B> as ClockBank>⟧.meaning self.new) }
+        ensures below { TakenBelow (shown (result_map millis_of result)) node raw.0 (B.meaning self.old.below) (B.meaning self.new.below) }
     {
         let reading = self.look(node, raw)?;
         self.below.take(node, raw)?;

@@ -1,7 +1,6 @@
 // What the offset layer adds to the readings of one node.
 ghost use Rattle.std.specs.Prelude.{◌≡◌, pos, negsuc, ◌≤ℤ◌};
-ghost use Rattle.clocks.specs.Settings.{offsetTested};
-ghost use Rattle.refusals.specs.Refusals.{shown};
+ghost use Rattle.refusals.specs.Refusals.{result_map, shown};
 
 use refusals::refusal::Refusal;
 
@@ -14,12 +13,14 @@ pub struct Offset {
 }
 
 impl Offset {
+    ghost use Rattle.clocks.specs.Settings.{offset_of, offset_setting};
+
     // A day, in milliseconds.
     pub const MAX: i64 = 86_400_000;
 
     // Refused with 4 beyond a day either way.
     pub fn new(millis: i64) -> Result<Offset, Refusal>
-        ensures { shown (λ x. x.millis) result ≡ offsetTested millis }
+        ensures { shown (result_map offset_of result) ≡ offset_setting millis }
     {
         if millis < -Offset::MAX || millis > Offset::MAX {
             return Err(Refusal::SettingOutOfRange);

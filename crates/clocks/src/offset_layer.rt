@@ -1,10 +1,10 @@
 // The offset layer: adds a signed number of milliseconds for each node to the bank below.
 ghost use Rattle.std.specs.Prelude.{◌≡◌, length};
-ghost use Rattle.clocks.specs.Banks.{TakenBelow, Takes};
-ghost use Rattle.clocks.specs.OffsetLayer.{offsetMeaning};
-ghost use Rattle.clocks.specs.Readings.{millisOf};
-ghost use Rattle.refusals.specs.Refusals.{shown};
-ghost use Rattle.std.proofs.Common.{rules, arith};
+ghost use Rattle.clocks.specs.Bank.{Taken, TakenBelow, look_answer};
+ghost use Rattle.clocks.specs.OffsetLayer.{offset_meaning};
+ghost use Rattle.clocks.specs.Reading.{millis_of};
+ghost use Rattle.refusals.specs.Refusals.{result_map, shown};
+ghost use Rattle.std.proofs.Common.{rules};
 
 use crate::bank::{ClockBank, NODES};
 use crate::offset::Offset;
@@ -21,7 +21,7 @@ pub struct OffsetLayer<B> {
 
 impl<B: ClockBank> OffsetLayer<B> {
     pub fn new(below: B, offsets: [Offset; NODES]) -> OffsetLayer<B>
-        ensures fresh { offsetMeaning result.offsets (B.ClockBank.meaning result.below) ≡ offsetMeaning offsets (B.ClockBank.meaning below) }
+        ensures fresh { ⟦<OffsetLayer<B> as ClockBank>⟧.meaning result ≡ offset_meaning offsets (B.meaning below) }
         ensures below { result.below ≡ below }
     {
         OffsetLayer { below, offsets }
@@ -29,9 +29,9 @@ impl<B: ClockBank> OffsetLayer<B> {
 }
 
 impl<B: ClockBank> ClockBank for OffsetLayer<B> {
-    ghost meaning = { λ s. offsetMeaning s.offsets (B.ClockBank.meaning s.below) };
+    ghost meaning = { λ s. offset_meaning s.offsets (B.meaning s.below) };
 
-    ghost lawful = { first_of (Prim.search rules, Prim.grind (arith, Self.row.coded.inj)) };
+    ghost lawful = { Prim.search rules };
 
     fn look(&self, node: u8, raw: Raw) -> Result<Reading, Refusal> {
         if usize::from(node) >= NODES {
@@ -47,8 +47,9 @@ impl<B: ClockBank> ClockBank for OffsetLayer<B> {
 
     // The bank below is taken from where this layer answers a reading, and the offsets stay.
     fn take(&mut self, node: u8, raw: Raw) -> Result<Reading, Refusal>
-        ensures bank { Takes (shown millisOf result) node raw.0 (offsetMeaning self.old.offsets (B.ClockBank.meaning self.old.below)) (offsetMeaning self.new.offsets (B.ClockBank.meaning self.new.below)) }
-        ensures below { TakenBelow (shown millisOf result) node raw.0 (B.ClockBank.meaning self.old.below) (B.ClockBank.meaning self.new.below) }
+        ensures answer { shown (result_map millis_of result) ≡ look_answer (⟦<OffsetLayer<B> as ClockBank>⟧.meaning self.old) node raw.0 }
+        ensures change { Taken (shown (result_map millis_of result)) node (⟦<OffsetLayer<B> as ClockBank>⟧.meaning self.old) (⟦<OffsetLayer<B> as ClockBank>⟧.meaning self.new) }
+        ensures below { TakenBelow (shown (result_map millis_of result)) node raw.0 (B.meaning self.old.below) (B.meaning self.new.below) }
         ensures settings { self.new.offsets ≡ self.old.offsets }
     {
         let reading = self.look(node, raw)?;

@@ -1,5 +1,5 @@
 // Any sequence of takes, and its law.
-ghost use Rattle.std.specs.Prelude.{◌≡◌, ◌+◌, ◌≤◌, true, length, is_ok, vec_len, vec_capacity, MatchResult};
+ghost use Rattle.std.specs.Prelude.{◌≡◌, ◌+◌, ◌≤◌, length, vec_len, vec_capacity, IsOk, OnErr, OnOk};
 ghost use Rattle.clocks.specs.Runs.{TookAll};
 
 use crate::bank::ClockBank;
@@ -15,8 +15,10 @@ pub fn take_all<B: ClockBank>(
     samples: &[Sample],
     answers: &mut Vec<Result<Reading, Refusal>>,
 ) -> Result<(), AllocError>
-    ensures taken { MatchResult result (λ _. TookAll (B.ClockBank.meaning bank.old) (B.ClockBank.meaning bank.new) samples.now answers.old.items answers.new.items) (λ _. (bank.new ≡ bank.old) × (answers.new.items ≡ answers.old.items)) }
-    ensures room { vec_len answers.old + length samples.now ≤ vec_capacity answers.old → is_ok result ≡ true }
+    ensures taken { OnOk result (TookAll (B.meaning bank.old) (B.meaning bank.new) samples.now answers.old.items answers.new.items) }
+    ensures bank_stays { OnErr result (bank.new ≡ bank.old) }
+    ensures answers_stay { OnErr result (answers.new.items ≡ answers.old.items) }
+    ensures room { vec_len answers.old + length samples.now ≤ vec_capacity answers.old → IsOk result }
 {
     answers.reserve(samples.len())?;
     for sample in samples {

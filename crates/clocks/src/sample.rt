@@ -2,7 +2,7 @@
 use crate::reading::Raw;
 
 // A node, and the raw number that its own clock counted.
-#[derive(Clone, Copy)]
+#[derive(Clone, Copy, Debug)]
 pub struct Sample {
     pub node: u8,
     pub raw: Raw,

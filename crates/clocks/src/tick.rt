@@ -1,8 +1,7 @@
 // How one node's ticks are turned into milliseconds.
 ghost use Rattle.std.specs.Prelude.{◌≡◌, ◌+◌, ◌*◌, ◌≤◌};
-ghost use Rattle.clocks.specs.Range.{topReading};
-ghost use Rattle.clocks.specs.Settings.{tickTested};
-ghost use Rattle.refusals.specs.Refusals.{shown};
+ghost use Rattle.clocks.specs.Limits.{max_reading, max_step};
+ghost use Rattle.refusals.specs.Refusals.{result_map, shown};
 
 use crate::reading::Reading;
 use refusals::refusal::Refusal;
@@ -12,18 +11,20 @@ use refusals::refusal::Refusal;
 pub struct Tick {
     pub(crate) base: u64,
     pub(crate) step: u32,
-    ghost low: { base ≤ topReading },
+    ghost low: { base ≤ max_reading },
     ghost positive: { 1 ≤ step },
-    ghost short: { step ≤ 1000 },
+    ghost short: { step ≤ max_step },
 }
 
 impl Tick {
+    ghost use Rattle.clocks.specs.Settings.{tick_of, tick_setting};
+
     // The longest step, in milliseconds.
     pub const MAX_STEP: u32 = 1000;
 
     // Refused with 4 for a base above the highest reading, or a step outside 1 to 1000.
     pub fn new(base: u64, step: u32) -> Result<Tick, Refusal>
-        ensures { shown (λ x. (x.base, x.step)) result ≡ tickTested base step }
+        ensures { shown (result_map tick_of result) ≡ tick_setting base step }
     {
         if base > Reading::MAX || step < 1 || step > Tick::MAX_STEP {
             return Err(Refusal::SettingOutOfRange);

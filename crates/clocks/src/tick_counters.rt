@@ -1,17 +1,15 @@
 // Tick counters: each node has a base and a step.
 ghost use Rattle.std.specs.Prelude.{◌≡◌};
-ghost use Rattle.clocks.specs.Banks.{Takes};
-ghost use Rattle.clocks.specs.Readings.{millisOf};
-ghost use Rattle.clocks.specs.TickCounters.{tickMeaning};
-ghost use Rattle.refusals.specs.Refusals.{shown};
+ghost use Rattle.clocks.specs.Bank.{Taken, look_answer};
+ghost use Rattle.clocks.specs.Reading.{millis_of};
+ghost use Rattle.clocks.specs.TickCounters.{fresh_ticks, tick_meaning};
+ghost use Rattle.refusals.specs.Refusals.{result_map, shown};
 ghost use Rattle.std.proofs.Common.{rules};
 
 use crate::bank::{ClockBank, NODES};
 use crate::reading::{Raw, Reading};
 use crate::tick::Tick;
 use refusals::refusal::Refusal;
-
-pub mod fresh;
 
 // The settings of the nodes, and their highs.
 #[derive(Drop)]
@@ -20,8 +18,20 @@ pub struct TickCounters {
     highs: [u64; NODES],
 }
 
+impl TickCounters {
+    // Counters from which nothing was taken yet.
+    pub fn new(ticks: [Tick; NODES]) -> TickCounters
+        ensures { ⟦<TickCounters as ClockBank>⟧.meaning result ≡ fresh_ticks ticks }
+    {
+        TickCounters {
+            ticks,
+            highs: [0; NODES],
+        }
+    }
+}
+
 impl ClockBank for TickCounters {
-    ghost meaning = { λ s. tickMeaning s.ticks s.highs };
+    ghost meaning = { λ s. tick_meaning s.ticks s.highs };
 
     ghost lawful = { Prim.search rules };
 
@@ -42,7 +52,8 @@ impl ClockBank for TickCounters {
 
     // The settings stay.
     fn take(&mut self, node: u8, raw: Raw) -> Result<Reading, Refusal>
-        ensures bank { Takes (shown millisOf result) node raw.0 (tickMeaning self.old.ticks self.old.highs) (tickMeaning self.new.ticks self.new.highs) }
+        ensures answer { shown (result_map millis_of result) ≡ look_answer (⟦<TickCounters as ClockBank>⟧.meaning self.old) node raw.0 }
+        ensures change { Taken (shown (result_map millis_of result)) node (⟦<TickCounters as ClockBank>⟧.meaning self.old) (⟦<TickCounters as ClockBank>⟧.meaning self.new) }
         ensures settings { self.new.ticks ≡ self.old.ticks }
     {
         let reading = self.look(node, raw)?;

@@ -3,5 +3,5 @@ use Rattle.std.specs.Prelude.{ℕ}
 use Rattle.clocks.specs.declared.reading.Reading.{Reading}
 
 -- a reading's number of milliseconds
-abbrev pub millisOf : Reading → ℕ
-millisOf r = r.millis
+abbrev pub millis_of : Reading → ℕ
+millis_of r = r.millis

@@ -1,5 +1,5 @@
 pub mod Range
-pub mod Stamps
-pub mod Leads
+pub mod Stamp
+pub mod Lead
 pub mod Rules
 pub mod Examples

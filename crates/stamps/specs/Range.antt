@@ -1,11 +1,11 @@
 -- Which times and counters are stamps.
 use Rattle.std.specs.Prelude.{ℕ, Bool, ◌&&◌, ◌||◌, ◌==◌, nat_le}
-use Rattle.clocks.specs.Range.{isReading}
+use Rattle.clocks.specs.Limits.{is_reading}
 
 -- the highest counter
-abbrev pub topCounter : ℕ
-topCounter = 65535
+abbrev pub max_counter : ℕ
+max_counter = 65535
 
 -- a reading and a counter, or 0.0
-abbrev pub isStamp : ℕ → ℕ → Bool
-isStamp time counter = (isReading time && nat_le counter topCounter) || (time == 0 && counter == 0)
+abbrev pub is_stamp : ℕ → ℕ → Bool
+is_stamp time counter = (is_reading time && nat_le counter max_counter) || (time == 0 && counter == 0)

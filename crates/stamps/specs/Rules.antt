@@ -1,47 +1,56 @@
 -- The stamp rules of a hybrid logical clock.
-use Rattle.std.specs.Prelude.{ℕ, ◌+◌, ◌-◌, max, cond, Ok, Err, Result, ◌==◌, nat_le}
-use Rattle.stamps.specs.Range.{topCounter}
-use Rattle.stamps.specs.Leads.{tooFarAhead}
-use Rattle.stamps.specs.Stamps.{Timestamp, stampOf}
+use Rattle.std.specs.Prelude.{ℕ, ◌+◌, ◌-◌, max, if◌then◌else◌, Ok, Err, Result, ◌==◌, nat_le}
+use Rattle.stamps.specs.Range.{max_counter}
+use Rattle.stamps.specs.Lead.{is_too_far_ahead}
+use Rattle.stamps.specs.Stamp.{Timestamp, stamp_of}
 use Rattle.stamps.specs.declared.mark.Mark.{Mark}
 
--- A note, send or put, from the node's last stamp and the reading p: the time is the larger of the two; the counter goes on
+-- A note, send or put, from the node's last stamp and the reading: the time is the larger of the two; the counter goes on
 -- where the time stays, else it starts at 0.
-abbrev pub ownStamp : Timestamp → ℕ → Timestamp
-ownStamp last p =
-    let time : ℕ = max last.time p in
-    record { time = time; counter = cond (time == last.time) (last.counter + 1) 0 }
+abbrev pub own_stamp : Timestamp → ℕ → Timestamp
+own_stamp last reading =
+    let time : ℕ = max last.time reading in
+    record { time = time; counter = (if time == last.time then last.counter + 1 else 0) }
 
 -- A receipt of the message stamped `sent`: the time is the largest of the three; the counter goes on from the stamps that
 -- have this time, from the larger counter if both have it, else it starts at 0.
-abbrev pub receiptStamp : Timestamp → Timestamp → ℕ → Timestamp
-receiptStamp last sent p =
-    let time : ℕ = max (max last.time sent.time) p in
+abbrev pub receipt_stamp : Timestamp → Timestamp → ℕ → Timestamp
+receipt_stamp last sent reading =
+    let time : ℕ = max (max last.time sent.time) reading in
     record {
       time = time;
       counter =
-          cond (time == last.time)
-          (cond (time == sent.time) (max last.counter sent.counter + 1) (last.counter + 1))
-          (cond (time == sent.time) (sent.counter + 1) 0);
+          (if time == last.time
+            then (if time == sent.time then max last.counter sent.counter + 1 else last.counter + 1)
+            else (if time == sent.time then sent.counter + 1 else 0));
     }
 
 -- What an event answers, as numbers: its stamp, and its drift, the stamp's time less the reading.
-pub record Marked : Type 0 where
+pub record MarkNumbers : Type 0 where
   pub stamp : Timestamp
   pub drift : ℕ
 
-abbrev pub mark_of : Mark → Marked
-mark_of m = record { stamp = stampOf m.stamp; drift = m.drift }
+abbrev pub mark_numbers : Mark → MarkNumbers
+mark_numbers mark = record { stamp = stamp_of mark.stamp; drift = mark.drift }
 
--- a stamp at the reading p with its drift, or 10 where its counter would be 65536
-abbrev pub withDrift : Timestamp → ℕ → Result Marked ℕ
-withDrift s p = cond (nat_le s.counter topCounter) (Ok (record { stamp = s; drift = s.time - p })) (Err 10)
+-- a stamp with its drift from the reading, or 10 where its counter would be 65536
+abbrev pub mark_at : Timestamp → ℕ → Result MarkNumbers ℕ
+mark_at stamp reading =
+    (if nat_le stamp.counter max_counter then Ok (record { stamp = stamp; drift = stamp.time - reading }) else Err 10)
 
--- the next counter, or 10
-abbrev pub countedOn : ℕ → Result ℕ ℕ
-countedOn c = cond (nat_le (c + 1) topCounter) (Ok (c + 1)) (Err 10)
+-- what a note, send or put answers
+abbrev pub own_mark : Timestamp → ℕ → Result MarkNumbers ℕ
+own_mark last reading = mark_at (own_stamp last reading) reading
 
--- a receipt where messages may be ahead by the lead: 15, then 10
-abbrev pub received : ℕ → Timestamp → Timestamp → ℕ → Result Marked ℕ
-received lead last sent p =
-    cond (tooFarAhead lead sent.time p) (Err 15) (withDrift (receiptStamp last sent p) p)
+-- what a receipt answers
+abbrev pub receipt_mark : Timestamp → Timestamp → ℕ → Result MarkNumbers ℕ
+receipt_mark last sent reading = mark_at (receipt_stamp last sent reading) reading
+
+-- what a receipt answers where messages may be ahead by the lead: 15, then 10
+abbrev pub lead_receipt_mark : ℕ → Timestamp → Timestamp → ℕ → Result MarkNumbers ℕ
+lead_receipt_mark lead last sent reading =
+    (if is_too_far_ahead lead sent.time reading then Err 15 else receipt_mark last sent reading)
+
+-- the counter that goes on, or 10
+abbrev pub next_counter : ℕ → Result ℕ ℕ
+next_counter counter = (if nat_le (counter + 1) max_counter then Ok (counter + 1) else Err 10)

@@ -1,13 +1,17 @@
 // Stamps to codes and back.
-ghost use Rattle.std.specs.Prelude.{◌≡◌, Some};
-ghost use Rattle.stamps.specs.Stamps.{HasCode, code_of, decoded, noStamp, stampIn, stampOf};
+ghost use Rattle.std.specs.Prelude.{◌≡◌, IfSome, Some};
+ghost use Rattle.std.specs.Option.{option_map};
+ghost use Rattle.stamps.specs.Stamp.{stamp_code, stamp_of, stamp_with_code, zero_stamp};
 
 use crate::stamp::Stamp;
+
+// How many counters there are.
+const COUNTERS: u64 = 65_536;
 
 impl Stamp {
     // The last stamp of a node that has none.
     pub fn zero() -> Stamp
-        ensures { stampOf result ≡ noStamp }
+        ensures { stamp_of result ≡ zero_stamp }
     {
         Stamp {
             time: 0,
@@ -17,23 +21,23 @@ impl Stamp {
 
     // The stamp as one number. It is the code of no other stamp.
     pub fn code(self) -> u64
-        ensures code { result ≡ code_of (stampOf self) }
-        ensures back { decoded result ≡ Some (stampOf self) }
+        ensures code { result ≡ stamp_code self }
+        ensures back { stamp_with_code result ≡ Some (stamp_of self) }
     {
-        self.time * 65_536 + u64::from(self.counter)
+        self.time * COUNTERS + u64::from(self.counter)
     }
 
     // The stamp that has this code: none for 1 to 65535, whose time would be 0.
     pub fn from_code(code: u64) -> Option<Stamp>
-        ensures stamp { stampIn result ≡ decoded code }
-        ensures back { HasCode result code }
+        ensures stamp { option_map stamp_of result ≡ stamp_with_code code }
+        ensures back { IfSome result (λ stamp. stamp_code stamp ≡ code) }
     {
-        if code > 0 && code < 65_536 {
+        if code > 0 && code < COUNTERS {
             return None;
         }
         Some(Stamp {
-            time: code / 65_536,
-            counter: (code % 65_536) as u16,
+            time: code / COUNTERS,
+            counter: (code % COUNTERS) as u16,
         })
     }
 }

@@ -1,8 +1,8 @@
 // How far a message's time may be above the reading of the node that receives it.
 ghost use Rattle.std.specs.Prelude.{◌≡◌, ◌≤◌};
-ghost use Rattle.stamps.specs.Leads.{leadTested, tooFarAhead};
-ghost use Rattle.clocks.specs.Settings.{dayLong};
-ghost use Rattle.refusals.specs.Refusals.{shown};
+ghost use Rattle.clocks.specs.Limits.{day_millis};
+ghost use Rattle.clocks.specs.Reading.{millis_of};
+ghost use Rattle.refusals.specs.Refusals.{result_map, shown};
 
 use crate::stamp::Stamp;
 use clocks::reading::Reading;
@@ -12,16 +12,19 @@ use refusals::refusal::Refusal;
 #[derive(Clone, Copy, Debug)]
 pub struct Lead {
     millis: u32,
-    ghost limited: { millis ≤ dayLong },
+    ghost limited: { millis ≤ day_millis },
 }
 
 impl Lead {
+    ghost use Rattle.stamps.specs.Lead.{is_too_far_ahead, lead_of, lead_setting};
+    ghost use Rattle.stamps.specs.Stamp.{stamp_of};
+
     // A day, in milliseconds.
     pub const MAX: u32 = 86_400_000;
 
     // Refused with 4 above a day.
     pub fn new(millis: u32) -> Result<Lead, Refusal>
-        ensures { shown (λ x. x.millis) result ≡ leadTested millis }
+        ensures { shown (result_map lead_of result) ≡ lead_setting millis }
     {
         if millis > Lead::MAX {
             return Err(Refusal::SettingOutOfRange);
@@ -30,8 +33,8 @@ impl Lead {
     }
 
     // Whether a message with the stamp `sent` is too far ahead of the reading to be received.
-    pub fn exceeded(self, sent: Stamp, reading: Reading) -> bool
-        ensures { result ≡ tooFarAhead self.millis sent.time reading.millis }
+    pub fn is_exceeded(self, sent: Stamp, reading: Reading) -> bool
+        ensures { result ≡ is_too_far_ahead (lead_of self) (stamp_of sent).time (millis_of reading) }
     {
         sent.time > reading.millis() + u64::from(self.millis)
     }

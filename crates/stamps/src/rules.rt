@@ -1,8 +1,10 @@
 // The stamp rules of a hybrid logical clock.
 ghost use Rattle.std.specs.Prelude.{◌≡◌};
-ghost use Rattle.refusals.specs.Refusals.{shown};
-ghost use Rattle.stamps.specs.Rules.{countedOn, mark_of, withDrift, ownStamp, receiptStamp, received};
-ghost use Rattle.stamps.specs.Stamps.{stampOf};
+ghost use Rattle.clocks.specs.Reading.{millis_of};
+ghost use Rattle.refusals.specs.Refusals.{result_map, shown};
+ghost use Rattle.stamps.specs.Lead.{lead_of};
+ghost use Rattle.stamps.specs.Rules.{lead_receipt_mark, mark_numbers, next_counter, own_mark, receipt_mark};
+ghost use Rattle.stamps.specs.Stamp.{stamp_of};
 
 use crate::lead::Lead;
 use crate::mark::Mark;
@@ -12,7 +14,7 @@ use refusals::refusal::Refusal;
 
 // A note, send or put of a node whose last stamp is `last`.
 pub fn stamp_own(last: Stamp, reading: Reading) -> Result<Mark, Refusal>
-    ensures { shown mark_of result ≡ withDrift (ownStamp (stampOf last) reading.millis) reading.millis }
+    ensures { shown (result_map mark_numbers result) ≡ own_mark (stamp_of last) (millis_of reading) }
 {
     let time = last.time.max(reading.millis());
     let counter = if time == last.time {
@@ -28,7 +30,7 @@ pub fn stamp_own(last: Stamp, reading: Reading) -> Result<Mark, Refusal>
 
 // The receipt of a message with the stamp `sent`.
 pub fn stamp_receipt(last: Stamp, sent: Stamp, reading: Reading) -> Result<Mark, Refusal>
-    ensures { shown mark_of result ≡ withDrift (receiptStamp (stampOf last) (stampOf sent) reading.millis) reading.millis }
+    ensures { shown (result_map mark_numbers result) ≡ receipt_mark (stamp_of last) (stamp_of sent) (millis_of reading) }
 {
     let time = last.time.max(sent.time).max(reading.millis());
     let counter = match (time == last.time, time == sent.time) {
@@ -45,19 +47,16 @@ pub fn stamp_receipt(last: Stamp, sent: Stamp, reading: Reading) -> Result<Mark,
 
 // The next counter, refused with 10 where it would be 65536.
 fn count_on(counter: u16) -> Result<u16, Refusal>
-    ensures { shown (λ n. n) result ≡ countedOn counter }
+    ensures { shown result ≡ next_counter counter }
 {
-    match counter.checked_add(1) {
-        Some(next) => Ok(next),
-        None => Err(Refusal::CounterSpent),
-    }
+    counter.checked_add(1).ok_or(Refusal::CounterSpent)
 }
 
 // The receipt of a message that may be ahead of the reading by the lead: refused with 15 beyond it, then with 10.
 pub fn receive(lead: Lead, last: Stamp, sent: Stamp, reading: Reading) -> Result<Mark, Refusal>
-    ensures { shown mark_of result ≡ received lead.millis (stampOf last) (stampOf sent) reading.millis }
+    ensures { shown (result_map mark_numbers result) ≡ lead_receipt_mark (lead_of lead) (stamp_of last) (stamp_of sent) (millis_of reading) }
 {
-    if lead.exceeded(sent, reading) {
+    if lead.is_exceeded(sent, reading) {
         return Err(Refusal::MessageTooFarAhead);
     }
     stamp_receipt(last, sent, reading)

@@ -1,25 +1,27 @@
 // Stamps.
-ghost use Rattle.std.specs.Prelude.{◌≡◌, true};
-ghost use Rattle.stamps.specs.Range.{isStamp};
+ghost use Rattle.std.specs.Prelude.{◌≡◌, IsTrue};
+ghost use Rattle.stamps.specs.Range.{is_stamp};
 
 // A time, which is a reading, and a counter; or 0.0, the last stamp of a node that has none.
 #[derive(Clone, Copy, Debug)]
 pub struct Stamp {
     pub(crate) time: u64,
     pub(crate) counter: u16,
-    ghost sound: { isStamp time counter ≡ true },
+    ghost sound: { IsTrue (is_stamp time counter) },
 }
 
 impl Stamp {
+    ghost use Rattle.stamps.specs.Stamp.{stamp_of};
+
     // Milliseconds.
     pub fn time(self) -> u64
-        ensures { result ≡ self.time }
+        ensures { result ≡ (stamp_of self).time }
     {
         self.time
     }
 
     pub fn counter(self) -> u16
-        ensures { result ≡ self.counter }
+        ensures { result ≡ (stamp_of self).counter }
     {
         self.counter
     }

@@ -2,11 +2,11 @@
 #![tactic(auto)]
 
 ghost use Rattle.std.specs.Prelude.{◌≡◌};
-ghost use Rattle.clocks.specs.TraceClocks.{traceAnswer};
-ghost use Rattle.refusals.specs.Refusals.{shown};
-ghost use Rattle.stamps.specs.Examples.{noted};
-ghost use Rattle.stamps.specs.Rules.{mark_of};
-ghost use Rattle.stamps.specs.Stamps.{noStamp};
+ghost use Rattle.clocks.specs.TraceClocks.{trace_answer};
+ghost use Rattle.refusals.specs.Refusals.{result_map, shown};
+ghost use Rattle.stamps.specs.Examples.{note_answer};
+ghost use Rattle.stamps.specs.Rules.{mark_numbers};
+ghost use Rattle.stamps.specs.Stamp.{zero_stamp};
 
 use clocks::backstep::Backstep;
 use clocks::bank::ClockBank;
@@ -20,7 +20,7 @@ use std::io;
 
 // The first note of node 0, whose clock may step back by 20 ms.
 fn first_note(raw: Raw) -> Result<Mark, Refusal>
-    ensures { shown mark_of result ≡ noted noStamp (traceAnswer 0 20 raw.0) }
+    ensures { shown (result_map mark_numbers result) ≡ note_answer zero_stamp (trace_answer 0 20 raw.0) }
 {
     let clocks = TraceClocks::new(Backstep::new(20)?);
     let reading = clocks.look(0, raw)?;

@@ -1,5 +1,5 @@
 // The never-backwards layer: answers the larger of the reading below and its own high.
-ghost use Rattle.std.specs.Prelude.{◌≡◌, length};
+ghost use Rattle.std.specs.Prelude.{◌≡◌};
 ghost use Rattle.clocks.specs.Bank.{Taken, TakenBelow, look_answer};
 ghost use Rattle.clocks.specs.NeverBackwards.{fresh_rising, rising_meaning};
 ghost use Rattle.clocks.specs.Reading.{millis_of};
@@ -15,7 +15,6 @@ use refusals::refusal::Refusal;
 pub struct NeverBackwards<B> {
     below: B,
     highs: [Option<Reading>; NODES],
-    ghost full: { length highs ≡ 16 },
 }
 
 impl<B: ClockBank> NeverBackwards<B> {

@@ -1,5 +1,5 @@
 // The offset layer: adds a signed number of milliseconds for each node to the bank below.
-ghost use Rattle.std.specs.Prelude.{◌≡◌, length};
+ghost use Rattle.std.specs.Prelude.{◌≡◌};
 ghost use Rattle.clocks.specs.Bank.{Taken, TakenBelow, look_answer};
 ghost use Rattle.clocks.specs.OffsetLayer.{offset_meaning};
 ghost use Rattle.clocks.specs.Reading.{millis_of};
@@ -16,7 +16,6 @@ use refusals::refusal::Refusal;
 pub struct OffsetLayer<B> {
     below: B,
     offsets: [Offset; NODES],
-    ghost full: { length offsets ≡ 16 },
 }
 
 impl<B: ClockBank> OffsetLayer<B> {

@@ -21,8 +21,8 @@ receipt_stamp last sent reading =
       time = time;
       counter =
           (if time == last.time
-            then (if time == sent.time then max last.counter sent.counter + 1 else last.counter + 1)
-            else (if time == sent.time then sent.counter + 1 else 0));
+          then (if time == sent.time then max last.counter sent.counter + 1 else last.counter + 1)
+          else (if time == sent.time then sent.counter + 1 else 0));
     }
 
 -- What an event answers, as numbers: its stamp, and its drift, the stamp's time less the reading.

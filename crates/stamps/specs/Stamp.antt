@@ -1,5 +1,5 @@
 -- Stamps as numbers, and their codes.
-use Rattle.std.specs.Prelude.{◌≡◌, ℕ, ◌+◌, ◌*◌, ◌/◌, ◌%◌, if◌then◌else◌, Some, None, Option}
+use Rattle.std.specs.Prelude.{ℕ, ◌+◌, ◌*◌, ◌/◌, ◌%◌, if◌then◌else◌, Some, None, Option}
 use Rattle.stamps.specs.Range.{is_stamp}
 use Rattle.stamps.specs.declared.stamp.Stamp.{Stamp}
 

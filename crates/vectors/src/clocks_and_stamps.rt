@@ -17,28 +17,23 @@ use stamps::stamp::Stamp;
 use std::alloc::Global;
 use std::test::Fail;
 
-// A reading's milliseconds, or the number of the refusal below zero.
-fn answer(given: Result<Reading, Refusal>) -> i64 {
-    match given {
-        Ok(reading) => reading.millis() as i64,
-        Err(refusal) => -i64::from(refusal.number()),
-    }
+// A reading's milliseconds, or the number of the refusal.
+fn millis(given: Result<Reading, Refusal>) -> Result<u64, u8> {
+    given
+        .map(|reading| reading.millis())
+        .map_err(|refusal| refusal.number())
 }
 
-// Time, counter and drift, or the number of the refusal alone.
-fn mark_numbers(given: Result<Mark, Refusal>) -> (u64, u16, u64) {
-    match given {
-        Ok(mark) => (mark.stamp.time(), mark.stamp.counter(), mark.drift),
-        Err(refusal) => (u64::from(refusal.number()), 0, 0),
-    }
+// Time, counter and drift, or the number of the refusal.
+fn mark_numbers(given: Result<Mark, Refusal>) -> Result<(u64, u16, u64), u8> {
+    given
+        .map(|mark| (mark.stamp.time(), mark.stamp.counter(), mark.drift))
+        .map_err(|refusal| refusal.number())
 }
 
 // The stamp of a code, or 0.0 if there is none.
 fn stamp_at(code: u64) -> Stamp {
-    match Stamp::from_code(code) {
-        Some(stamp) => stamp,
-        None => Stamp::zero(),
-    }
+    Stamp::from_code(code).unwrap_or(Stamp::zero())
 }
 
 // What a bank answers to the raw numbers of one node, taken in turn.
@@ -47,7 +42,7 @@ fn taken<B: ClockBank>(
     bank: &mut B,
     node: u8,
     raws: &[u64],
-) -> Result<Vec<i64>, Fail> {
+) -> Result<Vec<Result<u64, u8>>, Fail> {
     let mut samples = Vec::new(heap);
     for raw in raws {
         samples.push(Sample {
@@ -59,7 +54,7 @@ fn taken<B: ClockBank>(
     take_all(bank, samples.as_slice(), &mut answers)?;
     let mut numbers = Vec::new(heap);
     for given in answers {
-        numbers.push(answer(given))?;
+        numbers.push(millis(given))?;
     }
     Ok(numbers)
 }
@@ -73,9 +68,12 @@ fn trace_clock_steps_back(rt: HostRuntime) -> Result<(), Fail> {
         15,
         &[0, 281_474_976_710_656, 1000, 980, 979, 1001, 980],
     )?;
-    assert_eq!(rt; found.as_slice(), &[-8, -8, 1000, 980, -9, 1001, -9][..]);
-    assert_eq!(rt; answer(clocks.look(14, Raw(1))), 1);
-    assert_eq!(rt; answer(clocks.look(16, Raw(1))), -7);
+    assert_eq!(rt;
+        found.as_slice(),
+        &[Err(8), Err(8), Ok(1000), Ok(980), Err(9), Ok(1001), Err(9)][..]
+    );
+    assert_eq!(rt; millis(clocks.look(14, Raw(1))), Ok(1));
+    assert_eq!(rt; millis(clocks.look(16, Raw(1))), Err(7));
     Ok(())
 }
 
@@ -93,10 +91,18 @@ fn layers_on_layers(rt: HostRuntime) -> Result<(), Fail> {
     )?;
     assert_eq!(rt;
         found.as_slice(),
-        &[-8, 5, 45, -9, 42_949_672_945, -8, -9][..]
+        &[
+            Err(8),
+            Ok(5),
+            Ok(45),
+            Err(9),
+            Ok(42_949_672_945),
+            Err(8),
+            Err(9)
+        ][..]
     );
-    assert_eq!(rt; answer(clocks.take(16, Raw(1))), -7);
-    assert_eq!(rt; answer(clocks.take(4, Raw(1))), 5);
+    assert_eq!(rt; millis(clocks.take(16, Raw(1))), Err(7));
+    assert_eq!(rt; millis(clocks.take(4, Raw(1))), Ok(5));
     Ok(())
 }
 
@@ -105,7 +111,10 @@ fn never_backwards_holds_its_high(rt: HostRuntime) -> Result<(), Fail> {
     let below = TraceClocks::new(Backstep::new(86_400_000)?);
     let mut clocks = NeverBackwards::new(below);
     let found = taken(rt.alloc(), &mut clocks, 0, &[2000, 1000, 0, 2001, 1])?;
-    assert_eq!(rt; found.as_slice(), &[2000, 2000, -8, 2001, 2001][..]);
+    assert_eq!(rt;
+        found.as_slice(),
+        &[Ok(2000), Ok(2000), Err(8), Ok(2001), Ok(2001)][..]
+    );
     Ok(())
 }
 
@@ -121,13 +130,13 @@ fn offset_at_both_ends(rt: HostRuntime) -> Result<(), Fail> {
         0,
         &[281_474_890_310_656, 281_474_890_310_655],
     )?;
-    assert_eq!(rt; found.as_slice(), &[-8, 281_474_976_710_655][..]);
+    assert_eq!(rt; found.as_slice(), &[Err(8), Ok(281_474_976_710_655)][..]);
     let mut earlier = OffsetLayer::new(
         TraceClocks::new(Backstep::new(0)?),
         [Offset::new(-1000)?; 16],
     );
     let found = taken(rt.alloc(), &mut earlier, 0, &[1000, 1001])?;
-    assert_eq!(rt; found.as_slice(), &[-8, 1][..]);
+    assert_eq!(rt; found.as_slice(), &[Err(8), Ok(1)][..]);
     Ok(())
 }
 
@@ -150,16 +159,16 @@ fn drift_of_a_message(rt: HostRuntime) -> Result<(), Fail> {
     let sent = stamp_at(1501 * 65_536);
     assert_eq!(rt;
         mark_numbers(receive(Lead::new(500)?, Stamp::zero(), sent, reading)),
-        (15, 0, 0)
+        Err(15)
     );
     let sent = stamp_at(1500 * 65_536);
     let received = receive(Lead::new(500)?, Stamp::zero(), sent, reading)?;
-    assert_eq!(rt; mark_numbers(Ok(received)), (1500, 1, 500));
-    assert_eq!(rt; answer(clocks.look(0, Raw(979))), -9);
+    assert_eq!(rt; mark_numbers(Ok(received)), Ok((1500, 1, 500)));
+    assert_eq!(rt; millis(clocks.look(0, Raw(979))), Err(9));
     let reading = clocks.take(0, Raw(980))?;
     assert_eq!(rt;
         mark_numbers(stamp_own(received.stamp, reading)),
-        (1500, 2, 520)
+        Ok((1500, 2, 520))
     );
     Ok(())
 }
@@ -170,11 +179,11 @@ fn counter_spent(rt: HostRuntime) -> Result<(), Fail> {
     let last = stamp_at(1000 * 65_536 + 65_535);
     assert_eq!(rt;
         mark_numbers(stamp_own(last, clocks.take(0, Raw(1000))?)),
-        (10, 0, 0)
+        Err(10)
     );
     assert_eq!(rt;
         mark_numbers(stamp_own(last, clocks.take(0, Raw(1001))?)),
-        (1001, 0, 0)
+        Ok((1001, 0, 0))
     );
     Ok(())
 }

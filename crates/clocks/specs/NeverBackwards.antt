@@ -1,6 +1,7 @@
 -- The never-backwards layer: answers the larger of the reading below and its own high.
 use Rattle.std.specs.Prelude.{ℕ, max, List, Some, None, Ok, Err, Option, Result, slice_index_or}
 use Rattle.clocks.specs.Bank.{Clock, Meaning}
+use Rattle.clocks.specs.declared.never_backwards.NeverBackwards.{NeverBackwards}
 use Rattle.clocks.specs.declared.reading.Reading.{Reading}
 
 -- it refuses exactly as the bank below does
@@ -26,3 +27,7 @@ rising_meaning highs below = λ node. rising_clock (kept_high (slice_index_or hi
 -- its own highs start at 0
 abbrev pub fresh_rising : Meaning → Meaning
 fresh_rising below = λ node. rising_clock 0 (below node)
+
+-- the bank below a layer
+abbrev pub bank_below : {B : Type 0} → NeverBackwards B → B
+bank_below layer = layer.below

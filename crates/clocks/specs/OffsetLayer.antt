@@ -3,6 +3,7 @@ use Rattle.std.specs.Prelude.{ℕ, zero, suc, List, ℤ, pos, negsuc, ◌+ℤ◌
 use Rattle.clocks.specs.Limits.{reading_of}
 use Rattle.clocks.specs.Bank.{Clock, Meaning}
 use Rattle.clocks.specs.declared.offset.Offset.{Offset}
+use Rattle.clocks.specs.declared.offset_layer.OffsetLayer.{OffsetLayer}
 
 -- a sum as a reading; 8 outside the range
 abbrev pub sum_reading : ℤ → Result ℕ ℕ
@@ -37,3 +38,10 @@ zero_offset = record { millis = pos 0; least = record { le = tt }; most = record
 
 abbrev pub offset_meaning : List Offset → Meaning → Meaning
 offset_meaning offsets below = λ node. offset_clock (slice_index_or offsets node zero_offset).millis (below node)
+
+-- what a layer holds: the bank below, and the offsets of the nodes
+abbrev pub bank_below : {B : Type 0} → OffsetLayer B → B
+bank_below layer = layer.below
+
+abbrev pub offsets_of : {B : Type 0} → OffsetLayer B → List Offset
+offsets_of layer = layer.offsets

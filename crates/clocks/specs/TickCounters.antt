@@ -4,6 +4,7 @@ use Rattle.std.proofs.Common.{lit≤}
 use Rattle.clocks.specs.Limits.{is_reading}
 use Rattle.clocks.specs.Bank.{Clock, Meaning}
 use Rattle.clocks.specs.declared.tick.Tick.{Tick}
+use Rattle.clocks.specs.declared.tick_counters.TickCounters.{TickCounters}
 
 -- the highest raw number of a tick counter, which counts in 32 bits
 abbrev pub max_count : ℕ
@@ -28,3 +29,7 @@ tick_meaning ticks highs = λ node. tick_clock (slice_index_or ticks node absent
 -- nothing was taken yet
 abbrev pub fresh_ticks : List Tick → Meaning
 fresh_ticks ticks = λ node. tick_clock (slice_index_or ticks node absent_tick) 0
+
+-- the settings of the nodes
+abbrev pub ticks_of : TickCounters → List Tick
+ticks_of counters = counters.ticks

@@ -1,7 +1,7 @@
 // The never-backwards layer: answers the larger of the reading below and its own high.
 ghost use Rattle.std.specs.Prelude.{◌≡◌};
 ghost use Rattle.clocks.specs.Bank.{Taken, TakenBelow, look_answer};
-ghost use Rattle.clocks.specs.NeverBackwards.{fresh_rising, rising_meaning};
+ghost use Rattle.clocks.specs.NeverBackwards.{bank_below, fresh_rising, rising_meaning};
 ghost use Rattle.clocks.specs.Reading.{millis_of};
 ghost use Rattle.refusals.specs.Refusals.{result_map, shown};
 ghost use Rattle.std.proofs.Common.{rules};
@@ -21,7 +21,7 @@ impl<B: ClockBank> NeverBackwards<B> {
     // Its own highs start at 0, whatever was taken from the bank below.
     pub fn new(below: B) -> NeverBackwards<B>
         ensures fresh { ⟦<NeverBackwards<B> as ClockBank>⟧.meaning result ≡ fresh_rising (B.meaning below) }
-        ensures below { result.below ≡ below }
+        ensures below { bank_below result ≡ below }
     {
         NeverBackwards {
             below,
@@ -49,9 +49,13 @@ impl<B: ClockBank> ClockBank for NeverBackwards<B> {
 
     // The bank below is taken from as well.
     fn take(&mut self, node: u8, raw: Raw) -> Result<Reading, Refusal>
-        ensures answer { shown (result_map millis_of result) ≡ look_answer (⟦<NeverBackwards<B> as ClockBank>⟧.meaning self.old) node raw.0 }
-        ensures change { Taken (shown (result_map millis_of result)) node (⟦<NeverBackwards<B> as ClockBank>⟧.meaning self.old) (⟦<NeverBackwards<B> as ClockBank>⟧.meaning self.new) }
-        ensures below { TakenBelow (shown (result_map millis_of result)) node raw.0 (B.meaning self.old.below) (B.meaning self.new.below) }
+        ensures answer { let old = ⟦<NeverBackwards<B> as ClockBank>⟧.meaning self.old in
+            shown (result_map millis_of result) ≡ look_answer old node raw.0 }
+        ensures change { let meaning = ⟦<NeverBackwards<B> as ClockBank>⟧.meaning in
+            Taken (shown (result_map millis_of result)) node (meaning self.old) (meaning self.new) }
+        ensures below { let old = B.meaning (bank_below self.old) in
+            let new = B.meaning (bank_below self.new) in
+            TakenBelow (shown (result_map millis_of result)) node raw.0 old new }
     {
         let reading = self.look(node, raw)?;
         self.below.take(node, raw)?;

@@ -15,7 +15,8 @@ pub fn take_all<B: ClockBank>(
     samples: &[Sample],
     answers: &mut Vec<Result<Reading, Refusal>>,
 ) -> Result<(), AllocError>
-    ensures taken { OnOk result (TookAll (B.meaning bank.old) (B.meaning bank.new) samples.now answers.old.items answers.new.items) }
+    ensures taken { let took = TookAll (B.meaning bank.old) (B.meaning bank.new) in
+        OnOk result (took samples.now answers.old.items answers.new.items) }
     ensures bank_stays { OnErr result (bank.new ≡ bank.old) }
     ensures answers_stay { OnErr result (answers.new.items ≡ answers.old.items) }
     ensures room { vec_len answers.old + length samples.now ≤ vec_capacity answers.old → IsOk result }

@@ -2,7 +2,7 @@
 ghost use Rattle.std.specs.Prelude.{◌≡◌};
 ghost use Rattle.clocks.specs.Bank.{Taken, look_answer};
 ghost use Rattle.clocks.specs.Reading.{millis_of};
-ghost use Rattle.clocks.specs.TickCounters.{fresh_ticks, tick_meaning};
+ghost use Rattle.clocks.specs.TickCounters.{fresh_ticks, tick_meaning, ticks_of};
 ghost use Rattle.refusals.specs.Refusals.{result_map, shown};
 ghost use Rattle.std.proofs.Common.{rules};
 
@@ -52,9 +52,11 @@ impl ClockBank for TickCounters {
 
     // The settings stay.
     fn take(&mut self, node: u8, raw: Raw) -> Result<Reading, Refusal>
-        ensures answer { shown (result_map millis_of result) ≡ look_answer (⟦<TickCounters as ClockBank>⟧.meaning self.old) node raw.0 }
-        ensures change { Taken (shown (result_map millis_of result)) node (⟦<TickCounters as ClockBank>⟧.meaning self.old) (⟦<TickCounters as ClockBank>⟧.meaning self.new) }
-        ensures settings { self.new.ticks ≡ self.old.ticks }
+        ensures answer { let old = ⟦<TickCounters as ClockBank>⟧.meaning self.old in
+            shown (result_map millis_of result) ≡ look_answer old node raw.0 }
+        ensures change { let meaning = ⟦<TickCounters as ClockBank>⟧.meaning in
+            Taken (shown (result_map millis_of result)) node (meaning self.old) (meaning self.new) }
+        ensures settings { ticks_of self.new ≡ ticks_of self.old }
     {
         let reading = self.look(node, raw)?;
         self.highs[usize::from(node)] = reading.millis();

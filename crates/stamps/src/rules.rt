@@ -30,7 +30,8 @@ pub fn stamp_own(last: Stamp, reading: Reading) -> Result<Mark, Refusal>
 
 // The receipt of a message with the stamp `sent`.
 pub fn stamp_receipt(last: Stamp, sent: Stamp, reading: Reading) -> Result<Mark, Refusal>
-    ensures { shown (result_map mark_numbers result) ≡ receipt_mark (stamp_of last) (stamp_of sent) (millis_of reading) }
+    ensures { shown (result_map mark_numbers result)
+        ≡ receipt_mark (stamp_of last) (stamp_of sent) (millis_of reading) }
 {
     let time = last.time.max(sent.time).max(reading.millis());
     let counter = match (time == last.time, time == sent.time) {
@@ -54,7 +55,8 @@ fn count_on(counter: u16) -> Result<u16, Refusal>
 
 // The receipt of a message that may be ahead of the reading by the lead: refused with 15 beyond it, then with 10.
 pub fn receive(lead: Lead, last: Stamp, sent: Stamp, reading: Reading) -> Result<Mark, Refusal>
-    ensures { shown (result_map mark_numbers result) ≡ lead_receipt_mark (lead_of lead) (stamp_of last) (stamp_of sent) (millis_of reading) }
+    ensures { shown (result_map mark_numbers result)
+        ≡ lead_receipt_mark (lead_of lead) (stamp_of last) (stamp_of sent) (millis_of reading) }
 {
     if lead.is_exceeded(sent, reading) {
         return Err(Refusal::MessageTooFarAhead);

@@ -22,7 +22,7 @@ pub enum Kind {
 impl Kind {
     // The kind that this byte stands for, refused where there is none.
     pub fn from_byte(byte: u8) -> Result<Kind, Refusal>
-        ensures { shown (λ k. k) result ≡ ok_or (kind_at byte) 1 }
+        ensures { shown result ≡ ok_or (kind_at byte) 1 }
     {
         match byte {
             0 => Ok(Kind::SetUp),

@@ -1,7 +1,7 @@
 // Reads the records of a trace.
 ghost use Rattle.std.specs.Prelude.{◌≡◌, ◌+◌, ◌^◌, ◌<◌, ◌≤◌, length};
 ghost use Rattle.std.specs.Option.{option_map};
-ghost use Rattle.refusals.specs.Refusals.{shown};
+ghost use Rattle.refusals.specs.Refusals.{shown, result_map};
 ghost use Rattle.trace.specs.Numbers.{unsigned, signed};
 ghost use Rattle.trace.specs.Kinds.{bodyLen};
 ghost use Rattle.trace.specs.Contents.{contentOf};
@@ -113,7 +113,7 @@ fn decoded<'a>(kind: Kind, body: &'a [u8], start: usize) -> Record<'a>
 
 // What stands at `offset` of the trace: a record, nothing at the end, or a refusal.
 pub fn entry_at<'a>(trace: &'a [u8], offset: usize) -> Result<Option<Entry<'a>>, Refusal>
-    ensures answer { shown (option_map entry_of) result ≡ parse trace.now offset }
+    ensures answer { shown (result_map (option_map entry_of) result) ≡ parse trace.now offset }
     ensures stands { Standing trace.now result }
 {
     if offset >= trace.len() {
@@ -153,7 +153,7 @@ impl<'a> Reader<'a> {
 
     // The next record, none at the end. The reader moves behind the record, and stays where it is refused.
     pub fn next_entry(&mut self) -> Result<Option<Entry<'a>>, Refusal>
-        ensures answer { shown (option_map entry_of) result ≡ parse self.old.trace.now self.old.offset }
+        ensures answer { shown (result_map (option_map entry_of) result) ≡ parse self.old.trace.now self.old.offset }
         ensures stands { Standing self.old.trace.now result }
         ensures offset { self.new.offset ≡ behind self.old.offset (parse self.old.trace.now self.old.offset) }
         ensures trace { self.new.trace.now ≡ self.old.trace.now }

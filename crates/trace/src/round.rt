@@ -1,6 +1,6 @@
 // The round trips: a record that was written reads back as it was, and one that was read is written as it stood.
 ghost use Rattle.std.specs.Prelude.{◌≡◌, IfOk};
-ghost use Rattle.refusals.specs.Refusals.{shown};
+ghost use Rattle.refusals.specs.Refusals.{shown, result_map};
 ghost use Rattle.trace.specs.Contents.{contentOf};
 ghost use Rattle.trace.specs.Format.{entry_of, parse, Stands};
 ghost use Rattle.trace.specs.Writing.{written, reread, copiedTo, copied};
@@ -19,7 +19,7 @@ pub struct ReadBack<'b> {
 // Writes the record over the buffer from `place` on, and answers what the reader finds there. The buffer
 // is handed back for reading, also where the record does not fit.
 pub fn write_and_read<'b>(record: &Record, buffer: &'b mut [u8], place: usize) -> ReadBack<'b>
-    ensures answer { shown entry_of result.found ≡ reread (contentOf «record».now) place buffer.old }
+    ensures answer { shown (result_map entry_of result.found) ≡ reread (contentOf «record».now) place buffer.old }
     ensures buffer { result.buffer.now ≡ written (contentOf «record».now) place buffer.old }
     ensures stands { IfOk result.found (λ e. Stands result.buffer.now e) }
 {
@@ -45,7 +45,7 @@ pub fn copy_record(
     buffer: &mut [u8],
     place: usize,
 ) -> Result<Option<usize>, Refusal>
-    ensures answer { shown (λ n. n) result ≡ copiedTo (parse trace.now offset) place buffer.old }
+    ensures answer { shown result ≡ copiedTo (parse trace.now offset) place buffer.old }
     ensures buffer { buffer.new ≡ copied trace.now (parse trace.now offset) place buffer.old }
 {
     let Some(entry) = entry_at(trace, offset)? else {

@@ -166,7 +166,7 @@ impl Record<'_> {
     // Writes the record over the buffer from `place` on and answers the place behind it. Where the record
     // does not fit, no byte changes.
     pub fn write_to(&self, buffer: &mut [u8], place: usize) -> Result<usize, Refusal>
-        ensures answer { shown (λ n. n) result ≡ writtenTo (contentOf self.now) place buffer.old }
+        ensures answer { shown result ≡ writtenTo (contentOf self.now) place buffer.old }
         ensures buffer { buffer.new ≡ written (contentOf self.now) place buffer.old }
         ensures ranges { OnOk result (InRange (contentOf self.now)) }
     {

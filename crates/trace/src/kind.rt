@@ -2,7 +2,7 @@
 ghost use Rattle.std.specs.Prelude.{◌≡◌};
 ghost use Rattle.std.specs.Option.{ok_or};
 ghost use Rattle.refusals.specs.Refusals.{shown};
-ghost use Rattle.trace.specs.Kinds.{kind_at, byte_of, bodyLen};
+ghost use Rattle.trace.specs.Kinds.{kind_at, byte_of, body_len_of};
 
 use refusals::refusal::Refusal;
 
@@ -57,7 +57,7 @@ impl Kind {
 
     // How many bytes follow the byte of kind.
     pub fn body_len(self) -> usize
-        ensures { result ≡ bodyLen self }
+        ensures { result ≡ body_len_of self }
     {
         match self {
             Kind::SetUp => 10,

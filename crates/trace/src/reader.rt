@@ -2,10 +2,10 @@
 ghost use Rattle.std.specs.Prelude.{◌≡◌, ◌+◌, ◌^◌, ◌<◌, ◌≤◌, length};
 ghost use Rattle.std.specs.Option.{option_map};
 ghost use Rattle.refusals.specs.Refusals.{shown, result_map};
-ghost use Rattle.trace.specs.Numbers.{unsigned, signed};
-ghost use Rattle.trace.specs.Kinds.{bodyLen};
-ghost use Rattle.trace.specs.Contents.{contentOf};
-ghost use Rattle.trace.specs.Format.{part, decode, parse, behind, entry_of, key_of, keyWithin, Standing};
+ghost use Rattle.trace.specs.Numbers.{unsigned_at, signed_at};
+ghost use Rattle.trace.specs.Kinds.{body_len_of};
+ghost use Rattle.trace.specs.Contents.{content_of};
+ghost use Rattle.trace.specs.Format.{part, content_from, finding_at, place_behind, entry_of, key_of, key_in_body, Standing};
 
 use crate::kind::Kind;
 use crate::records::{Entry, KeyField, Record};
@@ -13,21 +13,21 @@ use refusals::refusal::Refusal;
 
 fn u32_at(body: &[u8], at: usize) -> u32
     requires { at + 4 ≤ length body.now }
-    ensures { result ≡ unsigned 4 at body.now }
+    ensures { result ≡ unsigned_at 4 at body.now }
 {
     u32::from_be_bytes([body[at], body[at + 1], body[at + 2], body[at + 3]])
 }
 
 fn i32_at(body: &[u8], at: usize) -> i32
     requires { at + 4 ≤ length body.now }
-    ensures { result ≡ signed at body.now }
+    ensures { result ≡ signed_at at body.now }
 {
     i32::from_be_bytes([body[at], body[at + 1], body[at + 2], body[at + 3]])
 }
 
 fn u64_at(body: &[u8], at: usize) -> u64
     requires { at + 8 ≤ length body.now }
-    ensures { result ≡ unsigned 8 at body.now }
+    ensures { result ≡ unsigned_at 8 at body.now }
 {
     u64::from_be_bytes([
         body[at],
@@ -59,9 +59,9 @@ fn key_at<'a, const N: usize>(body: &'a [u8], at: usize, start: usize) -> KeyFie
 
 // The record of this kind with this body, which begins at `start` of its trace.
 fn decoded<'a>(kind: Kind, body: &'a [u8], start: usize) -> Record<'a>
-    requires { (bodyLen kind ≤ length body.now) × (start + length body.now < 2 ^ 64) }
-    ensures content { contentOf result ≡ decode kind body.now }
-    ensures key { key_of result ≡ keyWithin kind start body.now }
+    requires { (body_len_of kind ≤ length body.now) × (start + length body.now < 2 ^ 64) }
+    ensures content { content_of result ≡ content_from kind body.now }
+    ensures key { key_of result ≡ key_in_body kind start body.now }
 {
     match kind {
         Kind::SetUp => Record::SetUp {
@@ -113,7 +113,7 @@ fn decoded<'a>(kind: Kind, body: &'a [u8], start: usize) -> Record<'a>
 
 // What stands at `offset` of the trace: a record, nothing at the end, or a refusal.
 pub fn entry_at<'a>(trace: &'a [u8], offset: usize) -> Result<Option<Entry<'a>>, Refusal>
-    ensures answer { shown (result_map (option_map entry_of) result) ≡ parse trace.now offset }
+    ensures answer { shown (result_map (option_map entry_of) result) ≡ finding_at trace.now offset }
     ensures stands { Standing trace.now result }
 {
     if offset >= trace.len() {
@@ -153,9 +153,9 @@ impl<'a> Reader<'a> {
 
     // The next record, none at the end. The reader moves behind the record, and stays where it is refused.
     pub fn next_entry(&mut self) -> Result<Option<Entry<'a>>, Refusal>
-        ensures answer { shown (result_map (option_map entry_of) result) ≡ parse self.old.trace.now self.old.offset }
+        ensures answer { shown (result_map (option_map entry_of) result) ≡ finding_at self.old.trace.now self.old.offset }
         ensures stands { Standing self.old.trace.now result }
-        ensures offset { self.new.offset ≡ behind self.old.offset (parse self.old.trace.now self.old.offset) }
+        ensures offset { self.new.offset ≡ place_behind self.old.offset (finding_at self.old.trace.now self.old.offset) }
         ensures trace { self.new.trace.now ≡ self.old.trace.now }
     {
         let found = entry_at(self.trace, self.offset)?;

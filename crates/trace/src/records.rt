@@ -1,6 +1,6 @@
 // A record of a trace.
 ghost use Rattle.std.specs.Prelude.{◌≡◌};
-ghost use Rattle.trace.specs.Contents.{contentOf, kind_of, size_of};
+ghost use Rattle.trace.specs.Contents.{content_of, kind_of, size_of};
 
 use crate::kind::Kind;
 
@@ -64,7 +64,7 @@ pub enum Record<'a> {
 
 impl Record<'_> {
     pub fn kind(&self) -> Kind
-        ensures { result ≡ kind_of (contentOf self.now) }
+        ensures { result ≡ kind_of (content_of self.now) }
     {
         match self {
             Record::SetUp { .. } => Kind::SetUp,
@@ -81,7 +81,7 @@ impl Record<'_> {
 
     // How many bytes the record takes in a trace, its byte of kind included.
     pub fn size(&self) -> usize
-        ensures { result ≡ size_of (contentOf self.now) }
+        ensures { result ≡ size_of (content_of self.now) }
     {
         1 + self.kind().body_len()
     }

@@ -1,11 +1,11 @@
 // Writes records into a lent buffer. Each function writes from `place` on and answers the place behind.
 ghost use Rattle.std.specs.Prelude.{◌≡◌, ◌+◌, ◌≤◌, ◌∷◌, ◌++◌, length, OnOk};
 ghost use Rattle.refusals.specs.Refusals.{shown};
-ghost use Rattle.trace.specs.Numbers.{bytes_of, signedBytes};
-ghost use Rattle.trace.specs.Kinds.{bodyLen};
-ghost use Rattle.trace.specs.Contents.{contentOf, kind_of, body_of};
-ghost use Rattle.trace.specs.Ranges.{InRange};
-ghost use Rattle.trace.specs.Writing.{Wrote, writtenTo, written};
+ghost use Rattle.trace.specs.Numbers.{bytes_of, signed_bytes_of};
+ghost use Rattle.trace.specs.Kinds.{body_len_of};
+ghost use Rattle.trace.specs.Contents.{content_of, kind_of, body_of};
+ghost use Rattle.trace.specs.Ranges.{IsInRange};
+ghost use Rattle.trace.specs.Writing.{Overwrites, write_answer, buffer_after_write};
 
 use crate::records::Record;
 use refusals::refusal::Refusal;
@@ -13,7 +13,7 @@ use refusals::refusal::Refusal;
 fn put(buffer: &mut [u8], place: usize, bytes: &[u8]) -> usize
     requires { place + length bytes.now ≤ length buffer.old }
     ensures place { result ≡ place + length bytes.now }
-    ensures after { Wrote place bytes.now buffer.old buffer.new }
+    ensures after { Overwrites place bytes.now buffer.old buffer.new }
 {
     let end = place + bytes.len();
     buffer[place..end].copy_from_slice(bytes);
@@ -23,7 +23,7 @@ fn put(buffer: &mut [u8], place: usize, bytes: &[u8]) -> usize
 fn put_u32(buffer: &mut [u8], place: usize, number: u32) -> usize
     requires { place + 4 ≤ length buffer.old }
     ensures place { result ≡ place + 4 }
-    ensures after { Wrote place (bytes_of 4 number) buffer.old buffer.new }
+    ensures after { Overwrites place (bytes_of 4 number) buffer.old buffer.new }
 {
     put(buffer, place, &number.to_be_bytes())
 }
@@ -31,7 +31,7 @@ fn put_u32(buffer: &mut [u8], place: usize, number: u32) -> usize
 fn put_i32(buffer: &mut [u8], place: usize, number: i32) -> usize
     requires { place + 4 ≤ length buffer.old }
     ensures place { result ≡ place + 4 }
-    ensures after { Wrote place (signedBytes number) buffer.old buffer.new }
+    ensures after { Overwrites place (signed_bytes_of number) buffer.old buffer.new }
 {
     put(buffer, place, &number.to_be_bytes())
 }
@@ -39,7 +39,7 @@ fn put_i32(buffer: &mut [u8], place: usize, number: i32) -> usize
 fn put_u64(buffer: &mut [u8], place: usize, number: u64) -> usize
     requires { place + 8 ≤ length buffer.old }
     ensures place { result ≡ place + 8 }
-    ensures after { Wrote place (bytes_of 8 number) buffer.old buffer.new }
+    ensures after { Overwrites place (bytes_of 8 number) buffer.old buffer.new }
 {
     put(buffer, place, &number.to_be_bytes())
 }
@@ -54,7 +54,7 @@ fn put_set_up(
 ) -> usize
     requires { place + 10 ≤ length buffer.old }
     ensures place { result ≡ place + 10 }
-    ensures after { Wrote place (nodes ∷ key_kind ∷ (bytes_of 4 lead ++ bytes_of 4 backstep)) buffer.old buffer.new }
+    ensures after { Overwrites place (nodes ∷ key_kind ∷ (bytes_of 4 lead ++ bytes_of 4 backstep)) buffer.old buffer.new }
 {
     let behind_kind = put(buffer, place, &[nodes, key_kind]);
     let behind_lead = put_u32(buffer, behind_kind, lead);
@@ -65,7 +65,7 @@ fn put_set_up(
 fn put_origin(buffer: &mut [u8], place: usize, node: u8, raw: u64) -> usize
     requires { place + 9 ≤ length buffer.old }
     ensures place { result ≡ place + 9 }
-    ensures after { Wrote place (node ∷ bytes_of 8 raw) buffer.old buffer.new }
+    ensures after { Overwrites place (node ∷ bytes_of 8 raw) buffer.old buffer.new }
 {
     let behind_node = put(buffer, place, &[node]);
     put_u64(buffer, behind_node, raw)
@@ -74,7 +74,7 @@ fn put_origin(buffer: &mut [u8], place: usize, node: u8, raw: u64) -> usize
 fn put_send(buffer: &mut [u8], place: usize, node: u8, raw: u64, to: u8, message: u32) -> usize
     requires { place + 14 ≤ length buffer.old }
     ensures place { result ≡ place + 14 }
-    ensures after { Wrote place (node ∷ (bytes_of 8 raw ++ (to ∷ bytes_of 4 message))) buffer.old buffer.new }
+    ensures after { Overwrites place (node ∷ (bytes_of 8 raw ++ (to ∷ bytes_of 4 message))) buffer.old buffer.new }
 {
     let behind_raw = put_origin(buffer, place, node, raw);
     let behind_to = put(buffer, behind_raw, &[to]);
@@ -84,7 +84,7 @@ fn put_send(buffer: &mut [u8], place: usize, node: u8, raw: u64, to: u8, message
 fn put_receipt(buffer: &mut [u8], place: usize, node: u8, raw: u64, message: u32) -> usize
     requires { place + 13 ≤ length buffer.old }
     ensures place { result ≡ place + 13 }
-    ensures after { Wrote place (node ∷ (bytes_of 8 raw ++ bytes_of 4 message)) buffer.old buffer.new }
+    ensures after { Overwrites place (node ∷ (bytes_of 8 raw ++ bytes_of 4 message)) buffer.old buffer.new }
 {
     let behind_raw = put_origin(buffer, place, node, raw);
     put_u32(buffer, behind_raw, message)
@@ -94,7 +94,7 @@ fn put_receipt(buffer: &mut [u8], place: usize, node: u8, raw: u64, message: u32
 fn put_version(buffer: &mut [u8], place: usize, node: u8, raw: u64, key: &[u8], value: i32) -> usize
     requires { place + 13 + length key.now ≤ length buffer.old }
     ensures place { result ≡ place + 13 + length key.now }
-    ensures after { Wrote place (node ∷ (bytes_of 8 raw ++ (key.now ++ signedBytes value))) buffer.old buffer.new }
+    ensures after { Overwrites place (node ∷ (bytes_of 8 raw ++ (key.now ++ signed_bytes_of value))) buffer.old buffer.new }
 {
     let behind_raw = put_origin(buffer, place, node, raw);
     let behind_key = put(buffer, behind_raw, key);
@@ -105,17 +105,17 @@ fn put_version(buffer: &mut [u8], place: usize, node: u8, raw: u64, key: &[u8], 
 fn put_read(buffer: &mut [u8], place: usize, at: u64, key: &[u8]) -> usize
     requires { place + 8 + length key.now ≤ length buffer.old }
     ensures place { result ≡ place + 8 + length key.now }
-    ensures after { Wrote place (bytes_of 8 at ++ key.now) buffer.old buffer.new }
+    ensures after { Overwrites place (bytes_of 8 at ++ key.now) buffer.old buffer.new }
 {
     let behind_at = put_u64(buffer, place, at);
     put(buffer, behind_at, key)
 }
 
 fn put_body(record: &Record, buffer: &mut [u8], place: usize) -> usize
-    requires { place + bodyLen (kind_of (contentOf «record».now)) ≤ length buffer.old }
-    ensures place { result ≡ place + bodyLen (kind_of (contentOf «record».now)) }
-    ensures after { Wrote place (body_of (contentOf «record».now)) buffer.old buffer.new }
-    ensures ranges { InRange (contentOf «record».now) }
+    requires { place + body_len_of (kind_of (content_of «record».now)) ≤ length buffer.old }
+    ensures place { result ≡ place + body_len_of (kind_of (content_of «record».now)) }
+    ensures after { Overwrites place (body_of (content_of «record».now)) buffer.old buffer.new }
+    ensures ranges { IsInRange (content_of «record».now) }
 {
     match *record {
         Record::SetUp {
@@ -166,9 +166,9 @@ impl Record<'_> {
     // Writes the record over the buffer from `place` on and answers the place behind it. Where the record
     // does not fit, no byte changes.
     pub fn write_to(&self, buffer: &mut [u8], place: usize) -> Result<usize, Refusal>
-        ensures answer { shown result ≡ writtenTo (contentOf self.now) place buffer.old }
-        ensures buffer { buffer.new ≡ written (contentOf self.now) place buffer.old }
-        ensures ranges { OnOk result (InRange (contentOf self.now)) }
+        ensures answer { shown result ≡ write_answer (content_of self.now) place buffer.old }
+        ensures buffer { buffer.new ≡ buffer_after_write (content_of self.now) place buffer.old }
+        ensures ranges { OnOk result (IsInRange (content_of self.now)) }
     {
         if buffer.len() < place || buffer.len() - place < self.size() {
             return Err(Refusal::NoRoom);

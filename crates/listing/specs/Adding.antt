@@ -2,7 +2,7 @@
 use Rattle.std.specs.Prelude.{◌≡◌, ℕ, ◌+◌, ◌≤◌, true, List, ◌++◌, length, is_ok, string_bytes, string_capacity, Result, String}
 
 -- a call that answered r made `after` of the text `was`, to which it adds these bytes
-pub record Added {Z X E : Type 0} (was after : String Z) (bytes : List ℕ) (r : Result X E) : Type 0 where
+pub record Adds {Z X E : Type 0} (was after : String Z) (bytes : List ℕ) (r : Result X E) : Type 0 where
   -- where it succeeded, the text has gained these bytes and no others
   pub text : is_ok r ≡ true → string_bytes after ≡ string_bytes was ++ bytes
   -- it succeeds wherever the text has room for them

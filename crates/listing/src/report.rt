@@ -1,5 +1,5 @@
 // The text of a listing.
-ghost use Rattle.std.specs.Prelude.{◌≡◌, length, IfOk, nat_le};
+ghost use Rattle.std.specs.Prelude.{◌≡◌, ◌≤◌, ◌↔◌, length, IfOk, IsTrue};
 ghost use Rattle.refusals.specs.Refusals.{number_of};
 ghost use Rattle.trace.specs.Contents.{content_of};
 ghost use Rattle.trace.specs.Whole.{whole_of, SplitsOneWay};
@@ -62,7 +62,7 @@ fn add_records(text: &mut String, trace: &[u8]) -> Result<u64, AllocError>
 
 // Whether the trace is short enough to be listed. Every trace splits into records in one way.
 fn is_listed(trace: &[u8]) -> bool
-    ensures value { result ≡ nat_le (length trace.now) 65536 }
+    ensures value { IsTrue result ↔ (length trace.now ≤ 65536) }
     ensures records { SplitsOneWay trace.now }
 {
     trace.get(LONGEST).is_none()

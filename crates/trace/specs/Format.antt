@@ -1,7 +1,6 @@
 -- What the bytes of a trace say at a place.
 use Rattle.std.specs.Prelude.{◌≡◌, ℕ, ◌+◌, if◌then◌else◌, List, length, take, drop, Some, None, Ok, Err, Option, Result, nat_le, nat_lt, slice_index}
 use Rattle.std.specs.Option.{option_map}
-use Rattle.refusals.specs.declared.refusal.Refusal.{Refusal}
 use Rattle.trace.specs.declared.kind.Kind.{Kind}
 use Rattle.trace.specs.declared.kind.Kind.TheVariants.{SetUp, Note, Send, Receipt, Loss, PutPoint, PutTag, ReadPoint, ReadTag}
 use Rattle.trace.specs.declared.records.Entry.{Entry}
@@ -34,11 +33,13 @@ Finding = Result (Option (ℕ × Content)) ℕ
 -- the record of a kind that stands at `at` and is followed by these bytes
 abbrev pub finding_for : ℕ → List ℕ → Option Kind → Finding
 finding_for at rest None = Err 1
-finding_for at rest (Some kind) = (if nat_lt (length rest) (body_len_of kind) then Err 2 else Ok (Some (at, content_from kind rest)))
+finding_for at rest (Some kind) =
+    (if nat_lt (length rest) (body_len_of kind) then Err 2 else Ok (Some (at, content_from kind rest)))
 
 -- what stands at `at` in a trace
 abbrev pub finding_at : List ℕ → ℕ → Finding
-finding_at bs at = (if nat_le (length bs) at then Ok None else finding_for at (drop (at + 1) bs) (kind_at (slice_index bs at)))
+finding_at bs at =
+    (if nat_le (length bs) at then Ok None else finding_for at (drop (at + 1) bs) (kind_at (slice_index bs at)))
 
 -- where the reader stands after it found this at `at`: behind a record, and else where it was
 abbrev pub place_behind : ℕ → Finding → ℕ
@@ -76,19 +77,15 @@ key_span_of ReadTag = Some (16, 8)
 
 -- the key of a record of this kind at `at` of the trace: its place, and that part of the trace
 abbrev pub key_in_trace : Kind → ℕ → List ℕ → Option (ℕ × List ℕ)
-key_in_trace kind at bs = option_map (λ field. (at + 1 + field.1, part field.0 (at + 1 + field.1) bs)) (key_span_of kind)
+key_in_trace kind at bs =
+    option_map (λ field. (at + 1 + field.1, part field.0 (at + 1 + field.1) bs)) (key_span_of kind)
 
 -- the same of a body that begins at `start` of the trace
 abbrev pub key_in_body : Kind → ℕ → List ℕ → Option (ℕ × List ℕ)
-key_in_body kind start body = option_map (λ field. (start + field.1, part field.0 field.1 body)) (key_span_of kind)
+key_in_body kind start body =
+    option_map (λ field. (start + field.1, part field.0 field.1 body)) (key_span_of kind)
 
 -- an entry is what stands at its offset in the trace: the record's bytes, and its key's
 pub record Stands (bs : List ℕ) (e : Entry) : Type 0 where
   pub bytes : part (size_of (content_of e.«record»)) e.offset bs ≡ encoding_of (content_of e.«record»)
   pub key : key_of e.«record» ≡ key_in_trace (kind_of (content_of e.«record»)) e.offset bs
-
--- the same of an answer that may have an entry
-abbrev pub Standing : List ℕ → Result (Option Entry) Refusal → Type 0
-Standing bs (Err refusal) = Unit {0}
-Standing bs (Ok None) = Unit {0}
-Standing bs (Ok (Some e)) = Stands bs e

@@ -1,11 +1,11 @@
 // Reads the records of a trace.
-ghost use Rattle.std.specs.Prelude.{◌≡◌, ◌+◌, ◌^◌, ◌<◌, ◌≤◌, length};
+ghost use Rattle.std.specs.Prelude.{◌≡◌, ◌+◌, ◌^◌, ◌<◌, ◌≤◌, length, IfOk, IfSome};
 ghost use Rattle.std.specs.Option.{option_map};
 ghost use Rattle.refusals.specs.Refusals.{shown, result_map};
 ghost use Rattle.trace.specs.Numbers.{unsigned_at, signed_at};
 ghost use Rattle.trace.specs.Kinds.{body_len_of};
 ghost use Rattle.trace.specs.Contents.{content_of};
-ghost use Rattle.trace.specs.Format.{part, content_from, finding_at, place_behind, entry_of, key_of, key_in_body, Standing};
+ghost use Rattle.trace.specs.Format.{part, content_from, finding_at, place_behind, entry_of, key_of, key_in_body, Stands};
 
 use crate::kind::Kind;
 use crate::records::{Entry, KeyField, Record};
@@ -114,7 +114,7 @@ fn decoded<'a>(kind: Kind, body: &'a [u8], start: usize) -> Record<'a>
 // What stands at `offset` of the trace: a record, nothing at the end, or a refusal.
 pub fn entry_at<'a>(trace: &'a [u8], offset: usize) -> Result<Option<Entry<'a>>, Refusal>
     ensures answer { shown (result_map (option_map entry_of) result) ≡ finding_at trace.now offset }
-    ensures stands { Standing trace.now result }
+    ensures stands { IfOk result (λ found. IfSome found (Stands trace.now)) }
 {
     if offset >= trace.len() {
         return Ok(None);
@@ -154,7 +154,7 @@ impl<'a> Reader<'a> {
     // The next record, none at the end. The reader moves behind the record, and stays where it is refused.
     pub fn next_entry(&mut self) -> Result<Option<Entry<'a>>, Refusal>
         ensures answer { shown (result_map (option_map entry_of) result) ≡ finding_at self.old.trace.now self.old.offset }
-        ensures stands { Standing self.old.trace.now result }
+        ensures stands { IfOk result (λ found. IfSome found (Stands self.old.trace.now)) }
         ensures offset { self.new.offset ≡ place_behind self.old.offset (finding_at self.old.trace.now self.old.offset) }
         ensures trace { self.new.trace.now ≡ self.old.trace.now }
     {

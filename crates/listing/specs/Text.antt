@@ -36,5 +36,5 @@ end_line accepted refusals = line_text (Word End ∷ Number accepted ∷ Number 
 abbrev pub text_of : List ℕ → List ℕ
 text_of bs =
     (if nat_le (length bs) 65536
-     then body_text (whole_of bs) ++ end_line (length (whole_of bs).records) 0
-     else line_text (Word TooLong ∷ []))
+    then body_text (whole_of bs) ++ end_line (length (whole_of bs).records) 0
+    else line_text (Word TooLong ∷ []))

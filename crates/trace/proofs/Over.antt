@@ -3,7 +3,7 @@ use Rattle.std.proofs.Common.{◌≡◌, ℕ, ◌+◌, ◌≤◌, List, ◌++◌
 use lib.Seq.{drop-append-add}
 use borrow.Rule.Slice.PartMut.{put_mid}
 use Rattle.std.proofs.lemmas.List.{length-take-le}
-use Rattle.trace.specs.Writing.{overlay, Overwrites}
+use Rattle.trace.specs.Writing.{overlay}
 
 pub put_mid-over : (place k : ℕ) (xs ys zs : List ℕ) → zs ≡ ys → k ≡ length ys → put_mid place k xs zs ≡ overlay place ys xs
 unfolding overlay
@@ -21,9 +21,9 @@ over-parts p q zs i e =
     ∙ ap (λ (t : List ℕ). p ++ (zs ++ t)) (drop-append-add p q (length zs))
 
 -- one write behind another is one write
-over-over : (place i : ℕ) (xs ys zs : List ℕ) → i ≡ place + length ys → place ≤ length xs → overlay i zs (overlay place ys xs) ≡ overlay place (ys ++ zs) xs
+pub overlay-overlay : (place i : ℕ) (xs ys zs : List ℕ) → i ≡ place + length ys → place ≤ length xs → overlay i zs (overlay place ys xs) ≡ overlay place (ys ++ zs) xs
 unfolding overlay
-over-over place i xs ys zs e h =
+overlay-overlay place i xs ys zs e h =
     let p = take place xs ++ ys in
     let q = drop (place + length ys) xs in
     let lp : length p ≡ i = omega (arith, length-append (take place xs) ys, length-take-le place xs h) in
@@ -34,7 +34,5 @@ over-over place i xs ys zs e h =
     ∙ ap (λ (t : List ℕ). take place xs ++ t) (sym (append_assoc ys zs (drop (place + length ys + length zs) xs)))
     ∙ ap (λ (n : ℕ). take place xs ++ ((ys ++ zs) ++ drop n xs)) (add_assoc place (length ys) (length zs) ∙ ap (λ (n : ℕ). place + n) (sym (length-append ys zs)))
 
--- the same, from what two calls say
-pub more : {place i : ℕ} {done ys was mid after : List ℕ} → Overwrites place done was mid → i ≡ place + length done → place ≤ length was
-    → Overwrites i ys mid after → Overwrites place (done ++ ys) was after
-more {place} {i} {done} {ys} {was} a e h b = record { is = b.is ∙ ap (overlay i ys) a.is ∙ over-over place i was done ys e h }
+-- for the writer, whose calls write one behind another
+pub ruleset overlays = (overlay-overlay, length-append)

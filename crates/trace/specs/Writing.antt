@@ -7,10 +7,6 @@ use Rattle.trace.specs.Format.{Finding, part}
 unfoldable pub overlay : ℕ → List ℕ → List ℕ → List ℕ
 overlay place ys xs = take place xs ++ (ys ++ drop (place + length ys) xs)
 
--- `after` is `was` with ys written over it from `place` on
-pub record Overwrites (place : ℕ) (ys was after : List ℕ) : Type 0 where
-  pub is : after ≡ overlay place ys was
-
 -- whether n bytes from `place` on lie within the buffer
 abbrev pub is_within : ℕ → ℕ → List ℕ → Bool
 is_within place n buffer = nat_le (place + n) (length buffer)

@@ -5,15 +5,16 @@ ghost use Rattle.trace.specs.Numbers.{bytes_of, signed_bytes_of};
 ghost use Rattle.trace.specs.Kinds.{body_len_of};
 ghost use Rattle.trace.specs.Contents.{content_of, kind_of, body_of};
 ghost use Rattle.trace.specs.Ranges.{IsInRange};
-ghost use Rattle.trace.specs.Writing.{Overwrites, write_answer, buffer_after_write};
+ghost use Rattle.trace.specs.Writing.{overlay, write_answer, buffer_after_write};
 
-use crate::records::Record;
+use crate::records::{KeyField, Record};
 use refusals::refusal::Refusal;
 
+#[tactic(auto, unfolding(crate::specs::Writing::overlay))]
 fn put(buffer: &mut [u8], place: usize, bytes: &[u8]) -> usize
     requires { place + length bytes.now ≤ length buffer.old }
     ensures place { result ≡ place + length bytes.now }
-    ensures after { Overwrites place bytes.now buffer.old buffer.new }
+    ensures after { buffer.new ≡ overlay place bytes.now buffer.old }
 {
     let end = place + bytes.len();
     buffer[place..end].copy_from_slice(bytes);
@@ -23,7 +24,7 @@ fn put(buffer: &mut [u8], place: usize, bytes: &[u8]) -> usize
 fn put_u32(buffer: &mut [u8], place: usize, number: u32) -> usize
     requires { place + 4 ≤ length buffer.old }
     ensures place { result ≡ place + 4 }
-    ensures after { Overwrites place (bytes_of 4 number) buffer.old buffer.new }
+    ensures after { buffer.new ≡ overlay place (bytes_of 4 number) buffer.old }
 {
     put(buffer, place, &number.to_be_bytes())
 }
@@ -31,7 +32,7 @@ fn put_u32(buffer: &mut [u8], place: usize, number: u32) -> usize
 fn put_i32(buffer: &mut [u8], place: usize, number: i32) -> usize
     requires { place + 4 ≤ length buffer.old }
     ensures place { result ≡ place + 4 }
-    ensures after { Overwrites place (signed_bytes_of number) buffer.old buffer.new }
+    ensures after { buffer.new ≡ overlay place (signed_bytes_of number) buffer.old }
 {
     put(buffer, place, &number.to_be_bytes())
 }
@@ -39,11 +40,12 @@ fn put_i32(buffer: &mut [u8], place: usize, number: i32) -> usize
 fn put_u64(buffer: &mut [u8], place: usize, number: u64) -> usize
     requires { place + 8 ≤ length buffer.old }
     ensures place { result ≡ place + 8 }
-    ensures after { Overwrites place (bytes_of 8 number) buffer.old buffer.new }
+    ensures after { buffer.new ≡ overlay place (bytes_of 8 number) buffer.old }
 {
     put(buffer, place, &number.to_be_bytes())
 }
 
+#[tactic(auto, using(crate::proofs::Over::overlays))]
 fn put_set_up(
     buffer: &mut [u8],
     place: usize,
@@ -54,7 +56,7 @@ fn put_set_up(
 ) -> usize
     requires { place + 10 ≤ length buffer.old }
     ensures place { result ≡ place + 10 }
-    ensures after { Overwrites place (nodes ∷ key_kind ∷ (bytes_of 4 lead ++ bytes_of 4 backstep)) buffer.old buffer.new }
+    ensures after { buffer.new ≡ overlay place (nodes ∷ key_kind ∷ (bytes_of 4 lead ++ bytes_of 4 backstep)) buffer.old }
 {
     let behind_kind = put(buffer, place, &[nodes, key_kind]);
     let behind_lead = put_u32(buffer, behind_kind, lead);
@@ -62,10 +64,11 @@ fn put_set_up(
 }
 
 // What every event begins with: its node, and the raw number of that node's clock.
+#[tactic(auto, using(crate::proofs::Over::overlays))]
 fn put_origin(buffer: &mut [u8], place: usize, node: u8, raw: u64) -> usize
     requires { place + 9 ≤ length buffer.old }
     ensures place { result ≡ place + 9 }
-    ensures after { Overwrites place (node ∷ bytes_of 8 raw) buffer.old buffer.new }
+    ensures after { buffer.new ≡ overlay place (node ∷ bytes_of 8 raw) buffer.old }
 {
     let behind_node = put(buffer, place, &[node]);
     put_u64(buffer, behind_node, raw)
@@ -74,7 +77,7 @@ fn put_origin(buffer: &mut [u8], place: usize, node: u8, raw: u64) -> usize
 fn put_send(buffer: &mut [u8], place: usize, node: u8, raw: u64, to: u8, message: u32) -> usize
     requires { place + 14 ≤ length buffer.old }
     ensures place { result ≡ place + 14 }
-    ensures after { Overwrites place (node ∷ (bytes_of 8 raw ++ (to ∷ bytes_of 4 message))) buffer.old buffer.new }
+    ensures after { buffer.new ≡ overlay place (node ∷ (bytes_of 8 raw ++ (to ∷ bytes_of 4 message))) buffer.old }
 {
     let behind_raw = put_origin(buffer, place, node, raw);
     let behind_to = put(buffer, behind_raw, &[to]);
@@ -84,17 +87,18 @@ fn put_send(buffer: &mut [u8], place: usize, node: u8, raw: u64, to: u8, message
 fn put_receipt(buffer: &mut [u8], place: usize, node: u8, raw: u64, message: u32) -> usize
     requires { place + 13 ≤ length buffer.old }
     ensures place { result ≡ place + 13 }
-    ensures after { Overwrites place (node ∷ (bytes_of 8 raw ++ bytes_of 4 message)) buffer.old buffer.new }
+    ensures after { buffer.new ≡ overlay place (node ∷ (bytes_of 8 raw ++ bytes_of 4 message)) buffer.old }
 {
     let behind_raw = put_origin(buffer, place, node, raw);
     put_u32(buffer, behind_raw, message)
 }
 
 // A put by a key of either kind.
+#[tactic(auto, using(crate::proofs::Over::overlays))]
 fn put_version(buffer: &mut [u8], place: usize, node: u8, raw: u64, key: &[u8], value: i32) -> usize
     requires { place + 13 + length key.now ≤ length buffer.old }
     ensures place { result ≡ place + 13 + length key.now }
-    ensures after { Overwrites place (node ∷ (bytes_of 8 raw ++ (key.now ++ signed_bytes_of value))) buffer.old buffer.new }
+    ensures after { buffer.new ≡ overlay place (node ∷ (bytes_of 8 raw ++ (key.now ++ signed_bytes_of value))) buffer.old }
 {
     let behind_raw = put_origin(buffer, place, node, raw);
     let behind_key = put(buffer, behind_raw, key);
@@ -102,10 +106,11 @@ fn put_version(buffer: &mut [u8], place: usize, node: u8, raw: u64, key: &[u8], 
 }
 
 // A read by a key of either kind.
+#[tactic(auto, using(crate::proofs::Over::overlays))]
 fn put_read(buffer: &mut [u8], place: usize, at: u64, key: &[u8]) -> usize
     requires { place + 8 + length key.now ≤ length buffer.old }
     ensures place { result ≡ place + 8 + length key.now }
-    ensures after { Overwrites place (bytes_of 8 at ++ key.now) buffer.old buffer.new }
+    ensures after { buffer.new ≡ overlay place (bytes_of 8 at ++ key.now) buffer.old }
 {
     let behind_at = put_u64(buffer, place, at);
     put(buffer, behind_at, key)
@@ -114,7 +119,7 @@ fn put_read(buffer: &mut [u8], place: usize, at: u64, key: &[u8]) -> usize
 fn put_body(record: &Record, buffer: &mut [u8], place: usize) -> usize
     requires { place + body_len_of (kind_of (content_of «record».now)) ≤ length buffer.old }
     ensures place { result ≡ place + body_len_of (kind_of (content_of «record».now)) }
-    ensures after { Overwrites place (body_of (content_of «record».now)) buffer.old buffer.new }
+    ensures after { buffer.new ≡ overlay place (body_of (content_of «record».now)) buffer.old }
     ensures ranges { IsInRange (content_of «record».now) }
 {
     match *record {
@@ -136,29 +141,23 @@ fn put_body(record: &Record, buffer: &mut [u8], place: usize) -> usize
         Record::PutPoint {
             node,
             raw,
-            key,
+            key: KeyField { bytes, .. },
             value,
-        } => {
-            let bytes = key.bytes;
-            put_version(buffer, place, node, raw, bytes, value)
-        }
+        } => put_version(buffer, place, node, raw, bytes, value),
         Record::PutTag {
             node,
             raw,
-            key,
+            key: KeyField { bytes, .. },
             value,
-        } => {
-            let bytes = key.bytes;
-            put_version(buffer, place, node, raw, bytes, value)
-        }
-        Record::ReadPoint { at, key } => {
-            let bytes = key.bytes;
-            put_read(buffer, place, at, bytes)
-        }
-        Record::ReadTag { at, key } => {
-            let bytes = key.bytes;
-            put_read(buffer, place, at, bytes)
-        }
+        } => put_version(buffer, place, node, raw, bytes, value),
+        Record::ReadPoint {
+            at,
+            key: KeyField { bytes, .. },
+        } => put_read(buffer, place, at, bytes),
+        Record::ReadTag {
+            at,
+            key: KeyField { bytes, .. },
+        } => put_read(buffer, place, at, bytes),
     }
 }
 

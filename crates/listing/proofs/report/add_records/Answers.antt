@@ -5,17 +5,9 @@ use Rattle.trace.specs.Format.{finding_at, place_behind, entry_of}
 use Rattle.trace.specs.Whole.{Whole, whole_of}
 use Rattle.trace.proofs.Whole.{rest-refused}
 use Rattle.listing.specs.Text.{record_line, record_lines, ending_lines, bad_line, body_text}
-use Rattle.listing.proofs.Adding.{stop, step, same_bytes}
+use Rattle.listing.proofs.Adding.{grows_not, stop, step, same_bytes}
 use Rattle.listing.proofs.Progress.{HasListed, tail, starts, next-text, goes}
 use Rattle.listing.proofs.report.add_records.Goals as goal
-
-pub loop-entry-init : goal.loop-entry-init
-loop-entry-init c =
-    let t = string_bytes c.args.text.now in (
-      subst (λ (at : ℕ). HasListed t t c.args.trace.now at 0) (sym c.new-reader.ensures.offset) (starts t c.args.trace.now),
-      c.new-reader.ensures.trace,
-      omega arith,
-    )
 
 pub loop-entry-preserved : goal.loop-entry-preserved
 loop-entry-preserved c =

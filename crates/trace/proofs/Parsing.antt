@@ -37,6 +37,11 @@ parse-found bs at k h e l =
     ∙ ap (finding_for at (drop (at + 1) bs)) e
     ∙ cond_no _ _ _ (le-ltb (length (drop (at + 1) bs)) (body_len_of k) l)
 
+-- the same of a record that was read from there
+pub record-found : (bs : List ℕ) (at : ℕ) (k : Kind) (m : Content) → at < length bs → kind_at (get_or bs at 0) ≡ Some k → body_len_of k ≤ length (drop (at + 1) bs)
+    → m ≡ content_from k (drop (at + 1) bs) → Ok (Some (at, m)) ≡ finding_at bs at
+record-found bs at k m h e l d = ap (λ (x : Content). Ok (Some (at, x))) d ∙ sym (parse-found bs at k h e l)
+
 -- what it takes that a record is found at `at`
 pub record Says (bs : List ℕ) (at i : ℕ) (m : Content) : Type 0 where
   pub here : i ≡ at

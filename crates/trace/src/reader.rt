@@ -116,11 +116,11 @@ pub fn entry_at<'a>(trace: &'a [u8], offset: usize) -> Result<Option<Entry<'a>>,
     ensures answer { shown (result_map (option_map entry_of) result) ≡ finding_at trace.now offset }
     ensures stands { IfOk result (λ found. IfSome found (Stands trace.now)) }
 {
-    if offset >= trace.len() {
+    let Some(&byte) = trace.get(offset) else {
         return Ok(None);
-    }
-    let kind = Kind::from_byte(trace[offset])?;
-    let (_, body) = trace.split_at(offset + 1);
+    };
+    let kind = Kind::from_byte(byte)?;
+    let body = &trace[offset + 1..];
     if body.len() < kind.body_len() {
         return Err(Refusal::CutShort);
     }
@@ -137,26 +137,28 @@ pub struct Reader<'a> {
 }
 
 impl<'a> Reader<'a> {
+    ghost use Rattle.trace.specs.Readers.{reader_trace, reader_offset, next_finding};
+
     pub fn new(trace: &'a [u8]) -> Reader<'a>
-        ensures trace { result.trace.now ≡ trace.now }
-        ensures offset { result.offset ≡ 0 }
+        ensures trace { reader_trace result ≡ trace.now }
+        ensures offset { reader_offset result ≡ 0 }
     {
         Reader { trace, offset: 0 }
     }
 
     // Where the next record would stand.
     pub fn offset(&self) -> usize
-        ensures { result ≡ self.now.offset }
+        ensures { result ≡ reader_offset self.now }
     {
         self.offset
     }
 
     // The next record, none at the end. The reader moves behind the record, and stays where it is refused.
     pub fn next_entry(&mut self) -> Result<Option<Entry<'a>>, Refusal>
-        ensures answer { shown (result_map (option_map entry_of) result) ≡ finding_at self.old.trace.now self.old.offset }
-        ensures stands { IfOk result (λ found. IfSome found (Stands self.old.trace.now)) }
-        ensures offset { self.new.offset ≡ place_behind self.old.offset (finding_at self.old.trace.now self.old.offset) }
-        ensures trace { self.new.trace.now ≡ self.old.trace.now }
+        ensures answer { shown (result_map (option_map entry_of) result) ≡ next_finding self.old }
+        ensures stands { IfOk result (λ found. IfSome found (Stands (reader_trace self.old))) }
+        ensures offset { reader_offset self.new ≡ place_behind (reader_offset self.old) (next_finding self.old) }
+        ensures trace { reader_trace self.new ≡ reader_trace self.old }
     {
         let found = entry_at(self.trace, self.offset)?;
         if let Some(entry) = found {

@@ -5,7 +5,7 @@ ghost use Rattle.listing.specs.Lines.{word_of, word_text};
 
 use trace::records::Record;
 
-#[derive(Clone, Copy)]
+#[derive(Clone, Copy, PartialEq, Eq, Debug)]
 pub enum Word {
     SetUp,
     Note,
@@ -55,7 +55,7 @@ impl Word {
     }
 }
 
-#[derive(Clone, Copy)]
+#[derive(Clone, Copy, PartialEq, Eq, Debug)]
 pub enum Piece {
     Word(Word),
     Number(u64),

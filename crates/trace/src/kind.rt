@@ -6,7 +6,7 @@ ghost use Rattle.trace.specs.Kinds.{kind_at, byte_of, body_len_of};
 
 use refusals::refusal::Refusal;
 
-#[derive(Clone, Copy)]
+#[derive(Clone, Copy, PartialEq, Eq, Debug)]
 pub enum Kind {
     SetUp,
     Note,

@@ -3,7 +3,8 @@ use Rattle.std.specs.Prelude.{◌≡◌, ℕ, ◌+◌, ◌≤◌, List, ◌++◌
 use Rattle.std.specs.Io.{StartsWith}
 
 -- a call that answered r made `after` of the text `was`, to which it adds these bytes
-pub record Adds {Z X E : Type 0} (was after : String Z) (bytes : List ℕ) (r : Result X E) : Type 0 where
+pub record Adds {Z X E : Type 0} (was after : String Z) (bytes : List ℕ) (r : Result X E)
+    : Type 0 where
   -- where it succeeded, the text has gained these bytes and no others
   pub text : IsOk r → string_bytes after ≡ string_bytes was ++ bytes
   -- where it failed, the text has kept what it had, and gained at most a first part of these bytes

@@ -38,7 +38,8 @@ fn add_bad(text: &mut String, refusal: Refusal, offset: usize) -> Result<(), All
     )
 }
 
-// Adds a line for each record, and one where a record is refused, and answers how many records there are.
+// Adds a line for each record, and one where a record is refused, and answers how many records
+// there are.
 fn add_records(text: &mut String, trace: &[u8]) -> Result<u64, AllocError>
     ensures text { Adds text.old text.new (body_text (whole_of trace.now)) result }
     ensures count { IfOk result (λ n. n ≡ length (whole_of trace.now).records) }
@@ -68,7 +69,8 @@ fn is_listed(trace: &[u8]) -> bool
     trace.get(LONGEST).is_none()
 }
 
-// Adds the whole listing of a trace to the text. The only failure is want of memory; the text may then have gained a part of it.
+// Adds the whole listing of a trace to the text. The only failure is want of memory; the text has then
+// gained at most a first part of it.
 pub fn add_listing(text: &mut String, trace: &[u8]) -> Result<(), AllocError>
     ensures text { Adds text.old text.new (text_of trace.now) result }
     ensures records { SplitsOneWay trace.now }

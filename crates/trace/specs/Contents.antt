@@ -48,7 +48,8 @@ size_of m = 1 + body_len_of (kind_of m)
 
 -- the bytes behind the byte of kind
 abbrev pub body_of : Content → List ℕ
-body_of (set_up nodes key_kind lead backstep) = nodes ∷ key_kind ∷ (bytes_of 4 lead ++ bytes_of 4 backstep)
+body_of (set_up nodes key_kind lead backstep) =
+    nodes ∷ key_kind ∷ (bytes_of 4 lead ++ bytes_of 4 backstep)
 body_of (note node raw) = node ∷ bytes_of 8 raw
 body_of (send node raw to message) = node ∷ (bytes_of 8 raw ++ (to ∷ bytes_of 4 message))
 body_of (receipt node raw message) = node ∷ (bytes_of 8 raw ++ bytes_of 4 message)

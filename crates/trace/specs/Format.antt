@@ -16,13 +16,18 @@ part w i bs = take w (drop i bs)
 
 -- the record of a kind that has this body: each field by its width and its place
 abbrev pub content_from : Kind → List ℕ → Content
-content_from SetUp body = set_up (unsigned_at 1 0 body) (unsigned_at 1 1 body) (unsigned_at 4 2 body) (unsigned_at 4 6 body)
+content_from SetUp body =
+    set_up (unsigned_at 1 0 body) (unsigned_at 1 1 body) (unsigned_at 4 2 body) (unsigned_at 4 6 body)
 content_from Note body = note (unsigned_at 1 0 body) (unsigned_at 8 1 body)
-content_from Send body = send (unsigned_at 1 0 body) (unsigned_at 8 1 body) (unsigned_at 1 9 body) (unsigned_at 4 10 body)
-content_from Receipt body = receipt (unsigned_at 1 0 body) (unsigned_at 8 1 body) (unsigned_at 4 9 body)
+content_from Send body =
+    send (unsigned_at 1 0 body) (unsigned_at 8 1 body) (unsigned_at 1 9 body) (unsigned_at 4 10 body)
+content_from Receipt body =
+    receipt (unsigned_at 1 0 body) (unsigned_at 8 1 body) (unsigned_at 4 9 body)
 content_from Loss body = loss (unsigned_at 4 0 body)
-content_from PutPoint body = put_point (unsigned_at 1 0 body) (unsigned_at 8 1 body) (part 4 9 body) (signed_at 13 body)
-content_from PutTag body = put_tag (unsigned_at 1 0 body) (unsigned_at 8 1 body) (part 16 9 body) (signed_at 25 body)
+content_from PutPoint body =
+    put_point (unsigned_at 1 0 body) (unsigned_at 8 1 body) (part 4 9 body) (signed_at 13 body)
+content_from PutTag body =
+    put_tag (unsigned_at 1 0 body) (unsigned_at 8 1 body) (part 16 9 body) (signed_at 25 body)
 content_from ReadPoint body = read_point (unsigned_at 8 0 body) (part 4 8 body)
 content_from ReadTag body = read_tag (unsigned_at 8 0 body) (part 16 8 body)
 
@@ -34,12 +39,16 @@ Finding = Result (Option (ℕ × Content)) ℕ
 abbrev pub finding_for : ℕ → List ℕ → Option Kind → Finding
 finding_for at rest None = Err 1
 finding_for at rest (Some kind) =
-    (if nat_lt (length rest) (body_len_of kind) then Err 2 else Ok (Some (at, content_from kind rest)))
+    (if nat_lt (length rest) (body_len_of kind)
+    then Err 2
+    else Ok (Some (at, content_from kind rest)))
 
 -- what stands at `at` in a trace
 abbrev pub finding_at : List ℕ → ℕ → Finding
 finding_at bs at =
-    (if nat_le (length bs) at then Ok None else finding_for at (drop (at + 1) bs) (kind_at (slice_index bs at)))
+    (if nat_le (length bs) at
+    then Ok None
+    else finding_for at (drop (at + 1) bs) (kind_at (slice_index bs at)))
 
 -- where the reader stands after it found this at `at`: behind a record, and else where it was
 abbrev pub place_behind : ℕ → Finding → ℕ
@@ -87,5 +96,6 @@ key_in_body kind start body =
 
 -- an entry is what stands at its offset in the trace: the record's bytes, and its key's
 pub record Stands (bs : List ℕ) (e : Entry) : Type 0 where
-  pub bytes : part (size_of (content_of e.«record»)) e.offset bs ≡ encoding_of (content_of e.«record»)
+  pub bytes : part (size_of (content_of e.«record»)) e.offset bs
+      ≡ encoding_of (content_of e.«record»)
   pub key : key_of e.«record» ≡ key_in_trace (kind_of (content_of e.«record»)) e.offset bs

@@ -5,7 +5,8 @@ use Rattle.trace.specs.Contents.{Content, encoding_of}
 use Rattle.trace.specs.Ranges.{IsInRange}
 use Rattle.trace.specs.Format.{Finding, finding_at, place_behind}
 
--- a trace is complete if its last record ends it; else what stands at a place is refused with a number
+-- a trace is complete if its last record ends it; else what stands at a place is refused, with a
+-- number
 pub data Ending : Type 0 where
   complete : Ending
   refused : (number at : ℕ) → Ending
@@ -23,7 +24,8 @@ whole_with at (Ok (Some (i, m))) rest = record { records = m ∷ rest.records; e
 -- the trace from `at` on, of which `turns` bounds the number of records
 abbrev pub whole_from : ℕ → List ℕ → ℕ → Whole
 whole_from zero bs at = record { records = []; ending = complete }
-whole_from (suc turns) bs at = whole_with at (finding_at bs at) (whole_from turns bs (place_behind at (finding_at bs at)))
+whole_from (suc turns) bs at =
+    whole_with at (finding_at bs at) (whole_from turns bs (place_behind at (finding_at bs at)))
 
 -- the whole trace; it has no more records than bytes
 abbrev pub whole_of : List ℕ → Whole
@@ -43,4 +45,5 @@ Splits bs ms (refused n at) = (bs ≡ trace_of ms ++ drop at bs) × (finding_at 
 pub record SplitsOneWay (bs : List ℕ) : Type 0 where
   pub fields : All IsInRange (whole_of bs).records
   pub splits : Splits bs (whole_of bs).records (whole_of bs).ending
-  pub only : (ms : List Content) (e : Ending) → All IsInRange ms → Splits bs ms e → whole_of bs ≡ record { records = ms; ending = e }
+  pub only : (ms : List Content) (e : Ending) → All IsInRange ms → Splits bs ms e
+      → whole_of bs ≡ record { records = ms; ending = e }

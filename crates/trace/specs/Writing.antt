@@ -38,4 +38,6 @@ abbrev pub buffer_after_copy : List ℕ → Finding → ℕ → List ℕ → Lis
 buffer_after_copy bs (Err n) place buffer = buffer
 buffer_after_copy bs (Ok None) place buffer = buffer
 buffer_after_copy bs (Ok (Some (at, m))) place buffer =
-    (if is_within place (size_of m) buffer then overlay place (part (size_of m) at bs) buffer else buffer)
+    (if is_within place (size_of m) buffer
+    then overlay place (part (size_of m) at bs) buffer
+    else buffer)

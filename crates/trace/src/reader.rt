@@ -153,11 +153,13 @@ impl<'a> Reader<'a> {
         self.offset
     }
 
-    // The next record, none at the end. The reader moves behind the record, and stays where it is refused.
+    // The next record, none at the end. The reader moves behind the record, and stays where it is
+    // refused.
     pub fn next_entry(&mut self) -> Result<Option<Entry<'a>>, Refusal>
         ensures answer { shown (result_map (option_map entry_of) result) ≡ next_finding self.old }
         ensures stands { IfOk result (λ found. IfSome found (Stands (reader_trace self.old))) }
-        ensures offset { reader_offset self.new ≡ place_behind (reader_offset self.old) (next_finding self.old) }
+        ensures offset { reader_offset self.new
+            ≡ place_behind (reader_offset self.old) (next_finding self.old) }
         ensures trace { reader_trace self.new ≡ reader_trace self.old }
     {
         let found = entry_at(self.trace, self.offset)?;

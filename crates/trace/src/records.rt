@@ -11,11 +11,13 @@ pub struct KeyField<'a, const N: usize> {
     pub bytes: &'a [u8; N],
 }
 
-// What one record says. A raw number is a node's own count of time, and `at` the stamp that a read asks about.
+// What one record says. A raw number is a node's own count of time, and `at` the stamp that a read
+// asks about.
 #[derive(Clone, Copy)]
 pub enum Record<'a> {
-    // How many nodes there are, their key kind (0 for points, 1 for tags), how far a message's time may
-    // lead the reading of the node that receives it, and the largest step back of a clock; both in milliseconds.
+    // How many nodes there are, their key kind (0 for points, 1 for tags), how far a message's time
+    // may lead the reading of the node that receives it, and the largest step back of a clock; both
+    // in milliseconds.
     SetUp {
         nodes: u8,
         key_kind: u8,

@@ -1,9 +1,10 @@
-// Writes records into a lent buffer. Each function writes from `place` on and answers the place behind.
+// Writes records into a lent buffer. Each function writes from `place` on and answers the place
+// behind.
 ghost use Rattle.std.specs.Prelude.{◌≡◌, ◌+◌, ◌≤◌, ◌∷◌, ◌++◌, length, OnOk};
 ghost use Rattle.refusals.specs.Refusals.{shown};
 ghost use Rattle.trace.specs.Numbers.{bytes_of, signed_bytes_of};
 ghost use Rattle.trace.specs.Kinds.{body_len_of};
-ghost use Rattle.trace.specs.Contents.{content_of, kind_of, body_of};
+ghost use Rattle.trace.specs.Contents.{set_up, send, receipt, content_of, kind_of, body_of};
 ghost use Rattle.trace.specs.Ranges.{IsInRange};
 ghost use Rattle.trace.specs.Writing.{overlay, write_answer, buffer_after_write};
 
@@ -56,7 +57,7 @@ fn put_set_up(
 ) -> usize
     requires { place + 10 ≤ length buffer.old }
     ensures place { result ≡ place + 10 }
-    ensures after { buffer.new ≡ overlay place (nodes ∷ key_kind ∷ (bytes_of 4 lead ++ bytes_of 4 backstep)) buffer.old }
+    ensures after { buffer.new ≡ overlay place (body_of (set_up nodes key_kind lead backstep)) buffer.old }
 {
     let behind_kind = put(buffer, place, &[nodes, key_kind]);
     let behind_lead = put_u32(buffer, behind_kind, lead);
@@ -77,7 +78,7 @@ fn put_origin(buffer: &mut [u8], place: usize, node: u8, raw: u64) -> usize
 fn put_send(buffer: &mut [u8], place: usize, node: u8, raw: u64, to: u8, message: u32) -> usize
     requires { place + 14 ≤ length buffer.old }
     ensures place { result ≡ place + 14 }
-    ensures after { buffer.new ≡ overlay place (node ∷ (bytes_of 8 raw ++ (to ∷ bytes_of 4 message))) buffer.old }
+    ensures after { buffer.new ≡ overlay place (body_of (send node raw to message)) buffer.old }
 {
     let behind_raw = put_origin(buffer, place, node, raw);
     let behind_to = put(buffer, behind_raw, &[to]);
@@ -87,7 +88,7 @@ fn put_send(buffer: &mut [u8], place: usize, node: u8, raw: u64, to: u8, message
 fn put_receipt(buffer: &mut [u8], place: usize, node: u8, raw: u64, message: u32) -> usize
     requires { place + 13 ≤ length buffer.old }
     ensures place { result ≡ place + 13 }
-    ensures after { buffer.new ≡ overlay place (node ∷ (bytes_of 8 raw ++ bytes_of 4 message)) buffer.old }
+    ensures after { buffer.new ≡ overlay place (body_of (receipt node raw message)) buffer.old }
 {
     let behind_raw = put_origin(buffer, place, node, raw);
     put_u32(buffer, behind_raw, message)
@@ -98,7 +99,8 @@ fn put_receipt(buffer: &mut [u8], place: usize, node: u8, raw: u64, message: u32
 fn put_version(buffer: &mut [u8], place: usize, node: u8, raw: u64, key: &[u8], value: i32) -> usize
     requires { place + 13 + length key.now ≤ length buffer.old }
     ensures place { result ≡ place + 13 + length key.now }
-    ensures after { buffer.new ≡ overlay place (node ∷ (bytes_of 8 raw ++ (key.now ++ signed_bytes_of value))) buffer.old }
+    ensures after { buffer.new
+        ≡ overlay place (node ∷ (bytes_of 8 raw ++ (key.now ++ signed_bytes_of value))) buffer.old }
 {
     let behind_raw = put_origin(buffer, place, node, raw);
     let behind_key = put(buffer, behind_raw, key);
@@ -162,8 +164,8 @@ fn put_body(record: &Record, buffer: &mut [u8], place: usize) -> usize
 }
 
 impl Record<'_> {
-    // Writes the record over the buffer from `place` on and answers the place behind it. Where the record
-    // does not fit, no byte changes.
+    // Writes the record over the buffer from `place` on and answers the place behind it. Where the
+    // record does not fit, no byte changes.
     pub fn write_to(&self, buffer: &mut [u8], place: usize) -> Result<usize, Refusal>
         ensures answer { shown result ≡ write_answer (content_of self.now) place buffer.old }
         ensures buffer { buffer.new ≡ buffer_after_write (content_of self.now) place buffer.old }

@@ -1,7 +1,7 @@
 -- Bytes that are added one after another.
-use Rattle.std.proofs.Common.{◌≡◌, ℕ, ◌+◌, ◌≤◌, Bool, true, false, cond, List, ◌++◌, length, is_ok, is_err, Ok, Err, string_bytes, string_len, string_capacity, Result, String, refl, sym, ap, ◌∙◌, subst, append_assoc, arith, length-append}
+use Rattle.std.proofs.Common.{◌≡◌, ℕ, ◌≤◌, true, List, ◌++◌, length, is_err, Ok, Err, string_bytes, string_capacity, Result, String, refl, sym, ap, ◌∙◌, subst, append_assoc, arith, length-append}
 use Rattle.std.specs.Io.{StartsWith}
-use Rattle.std.proofs.Transfers.{starts_with_of_eq, starts_with_of_append, starts_with_trans}
+use Rattle.std.proofs.Transfers.{starts_with_of_append, starts_with_trans}
 use Rattle.std.proofs.lemmas.Bool.{false≢true}
 use Rattle.listing.specs.Adding.{Adds}
 
@@ -36,9 +36,6 @@ pub record Grows {Z : Type 0} (was mid : String Z) : Type 0 where
   pub kept : StartsWith (string_bytes mid) (string_bytes was)
   pub capacity : string_capacity was ≤ string_capacity mid
 
-pub grows_not : {Z : Type 0} (was : String Z) → Grows was was
-grows_not was = record { kept = starts_with_of_eq (string_bytes was) (string_bytes was) refl; capacity = omega arith }
-
 -- an addition to a text that was on the way
 pub onward : {Z Y F : Type 0} (was mid after : String Z) (all ys : List ℕ) (q : Result Y F) → string_bytes mid ++ ys ≡ string_bytes was ++ all → Grows was mid
     → Adds mid after ys q → Adds was after all q
@@ -49,24 +46,6 @@ onward was mid after all ys q s g b = record {
   room = λ h. b.room (omega (arith, ap length s, length-append (string_bytes mid) ys, length-append (string_bytes was) all, g.capacity));
   capacity = omega (arith, g.capacity, b.capacity);
 }
-
--- what an addition at once leaves: all or nothing
-all_or_nothing : (was after xs : List ℕ) (b : Bool) → after ≡ cond b (was ++ xs) was → StartsWith after was × StartsWith (was ++ xs) after
-all_or_nothing was after xs true e = (starts_with_of_append after was xs e, starts_with_of_eq (was ++ xs) after (sym e))
-all_or_nothing was after xs false e = (starts_with_of_eq after was e, starts_with_of_append (was ++ xs) after xs (ap (λ (t : List ℕ). t ++ xs) (sym e)))
-
--- from what `push` and `push_str` ensure
-pub pushed : {Z X E : Type 0} (was after : String Z) (xs : List ℕ) (r : Result X E) → string_bytes after ≡ cond (is_ok r) (string_bytes was ++ xs) (string_bytes was)
-    → (string_len was + length xs ≤ string_capacity was → is_ok r ≡ true) → string_capacity was ≤ string_capacity after → Adds was after xs r
-pushed was after xs r b s c =
-    let w = all_or_nothing (string_bytes was) (string_bytes after) xs (is_ok r) b in
-    record {
-      text = λ e. b ∙ ap (λ (t : Bool). cond t (string_bytes was ++ xs) (string_bytes was)) e;
-      kept = w.0;
-      part = w.1;
-      room = λ h. s (omega (arith, was.bytes.ok.0));
-      capacity = c;
-    }
 
 pub same_bytes : {Z X E : Type 0} (was after : String Z) (xs ys : List ℕ) (r : Result X E) → xs ≡ ys → Adds was after xs r → Adds was after ys r
 same_bytes was after xs ys r e a = subst (λ (t : List ℕ). Adds was after t r) e a

@@ -1,13 +1,13 @@
 -- What is known between two records of a trace that is being listed.
-use Rattle.std.proofs.Common.{◌≡◌, ℕ, ◌+◌, ◌≤◌, Bool, true, cond, leb, List, [], ◌∷◌, ◌++◌, length, Some, Ok, sym, ap, ◌∙◌, append_assoc, zero-add, arith}
+use Rattle.std.proofs.Common.{◌≡◌, ℕ, ◌+◌, ◌≤◌, List, ◌++◌, length, Some, Ok, string_bytes, String, sym, ap, ◌∙◌, append_assoc, arith}
 use Rattle.trace.specs.Contents.{Content, size_of}
 use Rattle.trace.specs.Format.{finding_at}
+use Rattle.trace.specs.Readers.{reader_trace, reader_offset}
+use Rattle.trace.specs.declared.reader.Reader.{Reader}
 use Rattle.trace.specs.Whole.{Whole, whole_of}
-use Rattle.trace.proofs.Whole.{rest, whole-rest, rest-record}
-use Rattle.listing.specs.declared.line.Piece.TheVariants.{Word}
-use Rattle.listing.specs.declared.line.Word.TheVariants.{TooLong}
-use Rattle.listing.specs.Lines.{line_text}
-use Rattle.listing.specs.Text.{record_line, record_lines, ending_lines, body_text, end_line, text_of}
+use Rattle.trace.proofs.Whole.{rest, rest-record}
+use Rattle.listing.proofs.Adding.{Grows}
+use Rattle.listing.specs.Text.{record_line, record_lines, ending_lines, body_text}
 
 -- the lines of the trace from `at` on, where n records stand before
 abbrev pub tail : List ℕ → ℕ → ℕ → List ℕ
@@ -19,12 +19,11 @@ pub record HasListed (start text bs : List ℕ) (at n : ℕ) : Type 0 where
   pub count : n + length (rest bs at).records ≡ length (whole_of bs).records
   pub seen : n ≤ at
 
-pub starts : (start bs : List ℕ) → HasListed start start bs 0 0
-starts start bs = record {
-  lines = ap (λ (w : Whole). start ++ body_text w) (sym (whole-rest bs));
-  count = zero-add _ ∙ ap (λ (w : Whole). length w.records) (sym (whole-rest bs));
-  seen = omega arith;
-}
+-- the same between two turns of the loop
+pub record Listing {Z : Type 0} (was text : String Z) (bs : List ℕ) (reader : Reader) (n : ℕ) : Type 0 where
+  pub listed : HasListed (string_bytes was) (string_bytes text) bs (reader_offset reader) n
+  pub same : reader_trace reader ≡ bs
+  pub grown : Grows was text
 
 module _ (bs : List ℕ) (at n i : ℕ) (m : Content) (h : at ≤ length bs) (e : finding_at bs at ≡ Ok (Some (i, m))) where
   -- the line of the next record, and those behind it
@@ -44,7 +43,3 @@ module _ (bs : List ℕ) (at n i : ℕ) (m : Content) (h : at ≤ length bs) (e 
   -- the text on the way, with that line next
   pub next-text : (text all : List ℕ) → text ++ tail bs at n ≡ all → text ++ (record_line (n + 1) m ++ tail bs (at + size_of m) (n + 1)) ≡ all
   next-text text all s = ap (λ (t : List ℕ). text ++ t) (sym next-line) ∙ s
-
--- the text of a trace that is short enough
-pub listed-text : (bs : List ℕ) → leb (length bs) 65536 ≡ true → text_of bs ≡ body_text (whole_of bs) ++ end_line (length (whole_of bs).records) 0
-listed-text bs e = ap (λ (b : Bool). cond b (body_text (whole_of bs) ++ end_line (length (whole_of bs).records) 0) (line_text (Word TooLong ∷ []))) e

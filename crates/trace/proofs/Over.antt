@@ -1,16 +1,8 @@
 -- A list written over another.
 use Rattle.std.proofs.Common.{◌≡◌, ℕ, ◌+◌, ◌≤◌, List, ◌++◌, length, take, drop, sym, ap, ◌∙◌, append_assoc, add_assoc, arith, length-append, drop-drop, take_at}
 use lib.Seq.{drop-append-add}
-use borrow.Rule.Slice.PartMut.{put_mid}
 use Rattle.std.proofs.lemmas.List.{length-take-le}
 use Rattle.trace.specs.Writing.{overlay}
-
-pub put_mid-over : (place k : ℕ) (xs ys zs : List ℕ) → zs ≡ ys → k ≡ length ys → put_mid place k xs zs ≡ overlay place ys xs
-unfolding overlay
-put_mid-over place k xs ys zs e l =
-    ap (λ (t : List ℕ). take place xs ++ (t ++ drop k (drop place xs))) e
-    ∙ ap (λ (n : ℕ). take place xs ++ (ys ++ drop n (drop place xs))) l
-    ∙ ap (λ (t : List ℕ). take place xs ++ (ys ++ t)) (drop-drop (length ys) place xs)
 
 -- over a list in two parts
 over-parts : (p q zs : List ℕ) (i : ℕ) → length p ≡ i → overlay i zs (p ++ q) ≡ p ++ (zs ++ drop (length zs) q)

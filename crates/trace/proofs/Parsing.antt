@@ -44,7 +44,6 @@ record-found bs at k m h e l d = ap (λ (x : Content). Ok (Some (at, x))) d ∙ 
 
 -- what it takes that a record is found at `at`
 pub record Says (bs : List ℕ) (at i : ℕ) (m : Content) : Type 0 where
-  pub here : i ≡ at
   pub before : at < length bs
   pub kind : kind_at (get_or bs at 0) ≡ Some (kind_of m)
   pub body : m ≡ content_from (kind_of m) (drop (at + 1) bs)
@@ -67,7 +66,6 @@ parse-says bs at i m = by_end (leb (length bs) at) refl (kind_at (get_or bs at 0
         let d : content_from k (drop (at + 1) bs) ≡ m = ap (λ (x : ℕ × Content). x.1) pair in
         let ks : k ≡ kind_of m = sym (kind-decoded k (drop (at + 1) bs)) ∙ ap kind_of d in
         record {
-          here = ap (λ (x : ℕ × Content). x.0) (sym pair);
           before = leb-false (length bs) at p;
           kind = o ∙ ap Some ks;
           body = sym d ∙ ap (λ (j : Kind). content_from j (drop (at + 1) bs)) ks;

@@ -1,10 +1,8 @@
 use Rattle.std.proofs.Common.{ℕ, ◌+◌, ◌<◌, List, [], ◌∷◌, ◌++◌, length, get_or, drop, string_bytes, sym, ap, ◌∙◌, arith}
-use Rattle.std.proofs.lemmas.List.{drop_all}
-use Rattle.listing.specs.declared.line.Piece.{Piece}
 use Rattle.listing.specs.declared.line.Piece.TheVariants.{Word}
 use Rattle.listing.specs.declared.line.Word.TheVariants.{SetUp}
 use Rattle.listing.specs.Lines.{gap, piece_text, spaced_text, line_text}
-use Rattle.listing.proofs.Adding.{stop, step, onward}
+use Rattle.listing.proofs.Adding.{stop}
 use Rattle.listing.proofs.Spacing.{next-piece}
 use Rattle.listing.proofs.text.add_line.Goals as goal
 

@@ -1,4 +1,4 @@
-use Rattle.std.proofs.Common.{◌≡◌, ◌≤◌, [], ◌∷◌, ◌++◌, drop, string_bytes}
+use Rattle.std.proofs.Common.{◌≡◌, [], ◌∷◌, ◌++◌, drop, string_bytes}
 use Rattle.listing.specs.Lines.{spaced_text, line_text}
 use Rattle.listing.proofs.Adding.{Grows}
 use Rattle.listing.proofs.text.add_line.Given as goal

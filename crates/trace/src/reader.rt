@@ -43,12 +43,12 @@ fn u64_at(body: &[u8], at: usize) -> u64
 
 // The key at place `at` of a body that begins at `start` of its trace.
 fn key_at<'a, const N: usize>(body: &'a [u8], at: usize, start: usize) -> KeyField<'a, N>
-    requires { (at + N ≤ length body.now) × (start + at < 2 ^ 64) }
+    requires whole { at + N ≤ length body.now }
+    requires place { start + at < 2 ^ 64 }
     ensures offset { result.offset ≡ start + at }
     ensures bytes { result.bytes.now ≡ part N at body.now }
 {
-    let (_, rest) = body.split_at(at);
-    let Some(bytes) = rest.first_chunk::<N>() else {
+    let Some(bytes) = body[at..].first_chunk::<N>() else {
         unreachable()
     };
     KeyField {
@@ -58,8 +58,9 @@ fn key_at<'a, const N: usize>(body: &'a [u8], at: usize, start: usize) -> KeyFie
 }
 
 // The record of this kind with this body, which begins at `start` of its trace.
-fn decoded<'a>(kind: Kind, body: &'a [u8], start: usize) -> Record<'a>
-    requires { (body_len_of kind ≤ length body.now) × (start + length body.now < 2 ^ 64) }
+fn decode<'a>(kind: Kind, body: &'a [u8], start: usize) -> Record<'a>
+    requires whole { body_len_of kind ≤ length body.now }
+    requires places { start + length body.now < 2 ^ 64 }
     ensures content { content_of result ≡ content_from kind body.now }
     ensures key { key_of result ≡ key_in_body kind start body.now }
 {
@@ -124,7 +125,7 @@ pub fn entry_at<'a>(trace: &'a [u8], offset: usize) -> Result<Option<Entry<'a>>,
     if body.len() < kind.body_len() {
         return Err(Refusal::CutShort);
     }
-    let record = decoded(kind, body, offset + 1);
+    let record = decode(kind, body, offset + 1);
     Ok(Some(Entry { offset, record }))
 }
 

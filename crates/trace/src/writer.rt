@@ -57,7 +57,8 @@ fn put_set_up(
 ) -> usize
     requires { place + 10 ≤ length buffer.old }
     ensures place { result ≡ place + 10 }
-    ensures after { buffer.new ≡ overlay place (body_of (set_up nodes key_kind lead backstep)) buffer.old }
+    ensures after { buffer.new
+        ≡ overlay place (body_of (set_up nodes key_kind lead backstep)) buffer.old }
 {
     let behind_kind = put(buffer, place, &[nodes, key_kind]);
     let behind_lead = put_u32(buffer, behind_kind, lead);

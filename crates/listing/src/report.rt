@@ -69,8 +69,8 @@ fn is_listed(trace: &[u8]) -> bool
     trace.get(LONGEST).is_none()
 }
 
-// Adds the whole listing of a trace to the text. The only failure is want of memory; the text has then
-// gained at most a first part of it.
+// Adds the whole listing of a trace to the text. The only failure is want of memory; the text has
+// then gained at most a first part of it.
 pub fn add_listing(text: &mut String, trace: &[u8]) -> Result<(), AllocError>
     ensures text { Adds text.old text.new (text_of trace.now) result }
     ensures records { SplitsOneWay trace.now }

@@ -40,8 +40,8 @@ pub fn write_and_read<'b>(record: &Record, buffer: &'b mut [u8], place: usize) -
     }
 }
 
-// Copies the record that stands at `offset` of the trace over the buffer from `place` on, and answers
-// the place behind it; none at the end of the trace.
+// Copies the record that stands at `offset` of the trace over the buffer from `place` on, and
+// answers the place behind it; none at the end of the trace.
 pub fn copy_record(
     trace: &[u8],
     offset: usize,

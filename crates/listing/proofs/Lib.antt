@@ -1,3 +1,3 @@
 mod Adding
 mod Spacing
-mod Going
+mod Progress

@@ -1,3 +1,3 @@
-pub mod Added
+pub mod Adding
 pub mod Lines
 pub mod Text

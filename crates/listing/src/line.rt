@@ -1,11 +1,11 @@
 // What a line of the listing is made of: words and numbers.
 ghost use Rattle.std.specs.Prelude.{◌≡◌};
-ghost use Rattle.trace.specs.Contents.{contentOf};
-ghost use Rattle.listing.specs.Lines.{word_of, wordText};
+ghost use Rattle.trace.specs.Contents.{content_of};
+ghost use Rattle.listing.specs.Lines.{word_of, word_text};
 
 use trace::records::Record;
 
-#[derive(Clone, Copy)]
+#[derive(Clone, Copy, PartialEq, Eq, Debug)]
 pub enum Word {
     SetUp,
     Note,
@@ -23,7 +23,7 @@ pub enum Word {
 impl Word {
     // The word that a record goes by.
     pub fn from_record(record: &Record) -> Word
-        ensures { result ≡ word_of (contentOf «record».now) }
+        ensures { result ≡ word_of (content_of «record».now) }
     {
         match record {
             Record::SetUp { .. } => Word::SetUp,
@@ -37,7 +37,7 @@ impl Word {
     }
 
     pub fn as_str(self) -> &'static str
-        ensures { result.now ≡ wordText self }
+        ensures { result.now ≡ word_text self }
     {
         match self {
             Word::SetUp => "setup",
@@ -55,7 +55,7 @@ impl Word {
     }
 }
 
-#[derive(Clone, Copy)]
+#[derive(Clone, Copy, PartialEq, Eq, Debug)]
 pub enum Piece {
     Word(Word),
     Number(u64),

@@ -1,10 +1,10 @@
 // The text of a listing.
-ghost use Rattle.std.specs.Prelude.{◌≡◌, length, IfOk, nat_le};
+ghost use Rattle.std.specs.Prelude.{◌≡◌, ◌≤◌, ◌↔◌, length, IfOk, IsTrue};
 ghost use Rattle.refusals.specs.Refusals.{number_of};
-ghost use Rattle.trace.specs.Contents.{contentOf};
-ghost use Rattle.trace.specs.Whole.{whole, OneWay};
-ghost use Rattle.listing.specs.Added.{Added};
-ghost use Rattle.listing.specs.Text.{recordLine, badLine, bodyText, text_of};
+ghost use Rattle.trace.specs.Contents.{content_of};
+ghost use Rattle.trace.specs.Whole.{whole_of, SplitsOneWay};
+ghost use Rattle.listing.specs.Adding.{Adds};
+ghost use Rattle.listing.specs.Text.{record_line, bad_line, body_text, text_of};
 
 use crate::line::{Piece, Word};
 use crate::text::add_line;
@@ -17,14 +17,14 @@ use trace::records::Record;
 pub const LONGEST: usize = 65_536;
 
 fn add_record(text: &mut String, number: u64, record: &Record) -> Result<(), AllocError>
-    ensures { Added text.old text.new (recordLine number (contentOf «record».now)) result }
+    ensures { Adds text.old text.new (record_line number (content_of «record».now)) result }
 {
     let word = Word::from_record(record);
     add_line(text, &[Piece::Number(number), Piece::Word(word)])
 }
 
 fn add_bad(text: &mut String, refusal: Refusal, offset: usize) -> Result<(), AllocError>
-    ensures { Added text.old text.new (badLine (number_of refusal) offset) result }
+    ensures { Adds text.old text.new (bad_line (number_of refusal) offset) result }
 {
     let number = u64::from(refusal.number());
     add_line(
@@ -38,10 +38,11 @@ fn add_bad(text: &mut String, refusal: Refusal, offset: usize) -> Result<(), All
     )
 }
 
-// Adds a line for each record, and one where a record is refused, and answers how many records there are.
+// Adds a line for each record, and one where a record is refused, and answers how many records
+// there are.
 fn add_records(text: &mut String, trace: &[u8]) -> Result<u64, AllocError>
-    ensures text { Added text.old text.new (bodyText (whole trace.now)) result }
-    ensures count { IfOk result (λ n. n ≡ length (whole trace.now).records) }
+    ensures text { Adds text.old text.new (body_text (whole_of trace.now)) result }
+    ensures count { IfOk result (λ n. n ≡ length (whole_of trace.now).records) }
 {
     let mut reader = Reader::new(trace);
     let mut accepted = 0u64;
@@ -62,16 +63,17 @@ fn add_records(text: &mut String, trace: &[u8]) -> Result<u64, AllocError>
 
 // Whether the trace is short enough to be listed. Every trace splits into records in one way.
 fn is_listed(trace: &[u8]) -> bool
-    ensures value { result ≡ nat_le (length trace.now) 65536 }
-    ensures records { OneWay trace.now }
+    ensures value { IsTrue result ↔ (length trace.now ≤ 65536) }
+    ensures records { SplitsOneWay trace.now }
 {
     trace.get(LONGEST).is_none()
 }
 
-// Adds the whole listing of a trace to the text. The only failure is want of memory; the text may then have gained a part of it.
+// Adds the whole listing of a trace to the text. The only failure is want of memory; the text has
+// then gained at most a first part of it.
 pub fn add_listing(text: &mut String, trace: &[u8]) -> Result<(), AllocError>
-    ensures text { Added text.old text.new (text_of trace.now) result }
-    ensures records { OneWay trace.now }
+    ensures text { Adds text.old text.new (text_of trace.now) result }
+    ensures records { SplitsOneWay trace.now }
 {
     if !is_listed(trace) {
         return add_line(text, &[Piece::Word(Word::TooLong)]);

@@ -1,7 +1,7 @@
 // Adds words, numbers and lines to a text.
 ghost use Rattle.std.specs.Prelude.{◌≡◌, ◌+◌, ◌<◌, [], ◌∷◌, ◌++◌, decimal};
-ghost use Rattle.listing.specs.Added.{Added};
-ghost use Rattle.listing.specs.Lines.{pieceText, gap, lineText};
+ghost use Rattle.listing.specs.Adding.{Adds};
+ghost use Rattle.listing.specs.Lines.{piece_text, gap, line_text};
 
 use crate::line::Piece;
 use std::alloc::AllocError;
@@ -9,7 +9,7 @@ use std::alloc::AllocError;
 // Adds one ASCII character.
 fn add_char(text: &mut String, c: char) -> Result<(), AllocError>
     requires { c < 128 }
-    ensures { Added text.old text.new (c ∷ []) result }
+    ensures { Adds text.old text.new (c ∷ []) result }
 {
     text.push(c)
 }
@@ -23,7 +23,7 @@ fn digit(n: u64) -> char
 
 // Adds a number in decimal digits.
 fn add_number(text: &mut String, number: u64) -> Result<(), AllocError>
-    ensures { Added text.old text.new (decimal number) result }
+    ensures { Adds text.old text.new (decimal number) result }
 {
     if number < 10 {
         return add_char(text, digit(number));
@@ -33,7 +33,7 @@ fn add_number(text: &mut String, number: u64) -> Result<(), AllocError>
 }
 
 fn add_piece(text: &mut String, piece: Piece) -> Result<(), AllocError>
-    ensures { Added text.old text.new (pieceText piece) result }
+    ensures { Adds text.old text.new (piece_text piece) result }
 {
     match piece {
         Piece::Word(word) => text.push_str(word.as_str()),
@@ -43,7 +43,7 @@ fn add_piece(text: &mut String, piece: Piece) -> Result<(), AllocError>
 
 // Adds the piece at place i of a line: behind a space, unless it is the first.
 fn add_spaced(text: &mut String, i: usize, piece: Piece) -> Result<(), AllocError>
-    ensures { Added text.old text.new (gap i ++ pieceText piece) result }
+    ensures { Adds text.old text.new (gap i ++ piece_text piece) result }
 {
     if i == 0 {
         return add_piece(text, piece);
@@ -54,7 +54,7 @@ fn add_spaced(text: &mut String, i: usize, piece: Piece) -> Result<(), AllocErro
 
 // Adds a line of these pieces.
 pub fn add_line(text: &mut String, pieces: &[Piece]) -> Result<(), AllocError>
-    ensures { Added text.old text.new (lineText pieces.now) result }
+    ensures { Adds text.old text.new (line_text pieces.now) result }
 {
     for (i, piece) in pieces.iter().enumerate() {
         add_spaced(text, i, *piece)?;

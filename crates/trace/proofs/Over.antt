@@ -1,40 +1,30 @@
 -- A list written over another.
 use Rattle.std.proofs.Common.{◌≡◌, ℕ, ◌+◌, ◌≤◌, List, ◌++◌, length, take, drop, sym, ap, ◌∙◌, append_assoc, add_assoc, arith, length-append, drop-drop, take_at}
 use lib.Seq.{drop-append-add}
-use borrow.Rule.Slice.PartMut.{put_mid}
 use Rattle.std.proofs.lemmas.List.{length-take-le}
-use Rattle.trace.specs.Writing.{over, Wrote}
-
-pub putMid-over : (place k : ℕ) (xs ys zs : List ℕ) → zs ≡ ys → k ≡ length ys → put_mid place k xs zs ≡ over place ys xs
-unfolding over
-putMid-over place k xs ys zs e l =
-    ap (λ (t : List ℕ). take place xs ++ (t ++ drop k (drop place xs))) e
-    ∙ ap (λ (n : ℕ). take place xs ++ (ys ++ drop n (drop place xs))) l
-    ∙ ap (λ (t : List ℕ). take place xs ++ (ys ++ t)) (drop-drop (length ys) place xs)
+use Rattle.trace.specs.Writing.{overlay}
 
 -- over a list in two parts
-over-parts : (p q zs : List ℕ) (i : ℕ) → length p ≡ i → over i zs (p ++ q) ≡ p ++ (zs ++ drop (length zs) q)
-unfolding over
+over-parts : (p q zs : List ℕ) (i : ℕ) → length p ≡ i → overlay i zs (p ++ q) ≡ p ++ (zs ++ drop (length zs) q)
+unfolding overlay
 over-parts p q zs i e =
     ap (λ (t : List ℕ). t ++ (zs ++ drop (i + length zs) (p ++ q))) (take_at p q i e)
     ∙ ap (λ (n : ℕ). p ++ (zs ++ drop (n + length zs) (p ++ q))) (sym e)
     ∙ ap (λ (t : List ℕ). p ++ (zs ++ t)) (drop-append-add p q (length zs))
 
 -- one write behind another is one write
-over-over : (place i : ℕ) (xs ys zs : List ℕ) → i ≡ place + length ys → place ≤ length xs → over i zs (over place ys xs) ≡ over place (ys ++ zs) xs
-unfolding over
-over-over place i xs ys zs e h =
+pub overlay-overlay : (place i : ℕ) (xs ys zs : List ℕ) → i ≡ place + length ys → place ≤ length xs → overlay i zs (overlay place ys xs) ≡ overlay place (ys ++ zs) xs
+unfolding overlay
+overlay-overlay place i xs ys zs e h =
     let p = take place xs ++ ys in
     let q = drop (place + length ys) xs in
     let lp : length p ≡ i = omega (arith, length-append (take place xs) ys, length-take-le place xs h) in
-    ap (over i zs) (sym (append_assoc (take place xs) ys q))
+    ap (overlay i zs) (sym (append_assoc (take place xs) ys q))
     ∙ over-parts p q zs i lp
     ∙ append_assoc (take place xs) ys (zs ++ drop (length zs) q)
     ∙ ap (λ (t : List ℕ). take place xs ++ (ys ++ (zs ++ t))) (drop-drop (length zs) (place + length ys) xs)
     ∙ ap (λ (t : List ℕ). take place xs ++ t) (sym (append_assoc ys zs (drop (place + length ys + length zs) xs)))
     ∙ ap (λ (n : ℕ). take place xs ++ ((ys ++ zs) ++ drop n xs)) (add_assoc place (length ys) (length zs) ∙ ap (λ (n : ℕ). place + n) (sym (length-append ys zs)))
 
--- the same, from what two calls say
-pub more : {place i : ℕ} {done ys was mid after : List ℕ} → Wrote place done was mid → i ≡ place + length done → place ≤ length was
-    → Wrote i ys mid after → Wrote place (done ++ ys) was after
-more {place} {i} {done} {ys} {was} a e h b = record { is = b.is ∙ ap (over i ys) a.is ∙ over-over place i was done ys e h }
+-- for the writer, whose calls write one behind another
+pub ruleset overlays = (overlay-overlay, length-append)

@@ -3,11 +3,11 @@ use Rattle.std.proofs.Common.{◌≡◌, ℕ, zero, suc, ◌+◌, ◌<◌, ◌�
 use Rattle.std.proofs.lemmas.List.{get_or-drop, drop_more}
 use Rattle.trace.specs.declared.kind.Kind.{Kind}
 use Rattle.trace.specs.declared.kind.Kind.TheVariants.{SetUp, Note, Send, Receipt, Loss, PutPoint, PutTag, ReadPoint, ReadTag}
-use Rattle.trace.specs.Numbers.{unsigned, bytes_of}
-use Rattle.trace.specs.Kinds.{kind_at, byte_of, bodyLen}
-use Rattle.trace.specs.Contents.{Content, kind_of, size_of, encode}
-use Rattle.trace.specs.Format.{part, decode, keyPart, keyWithin}
-use Rattle.trace.proofs.Numbers.{Bytes, bytes_unsigned, bytes_signed}
+use Rattle.trace.specs.Numbers.{unsigned_at, bytes_of}
+use Rattle.trace.specs.Kinds.{kind_at, byte_of, body_len_of}
+use Rattle.trace.specs.Contents.{Content, kind_of, size_of, encoding_of}
+use Rattle.trace.specs.Format.{part, content_from, key_in_trace, key_in_body}
+use Rattle.trace.proofs.Numbers.{AllBytes, bytes_unsigned, bytes_signed}
 use Rattle.trace.proofs.Parsing.{kind-decoded}
 
 pub ap2 : {A B C : Type 0} (f : A → B → C) {a a' : A} {b b' : B} → a ≡ a' → b ≡ b' → f a b ≡ f a' b'
@@ -18,17 +18,17 @@ part_then : (n m i : ℕ) (bs rest : List ℕ) → rest ≡ part m (i + n) bs �
 part_then n m i bs rest e = ap (λ (t : List ℕ). part n i bs ++ t) (e ∙ ap (take m) (sym (drop-drop n i bs))) ∙ sym (take-add n m (drop i bs))
 
 -- a number in w bytes at place i, followed by m more bytes
-number-then : (w m i : ℕ) (bs rest : List ℕ) → i + w ≤ length bs → Bytes bs → rest ≡ part m (i + w) bs → bytes_of w (unsigned w i bs) ++ rest ≡ part (w + m) i bs
+number-then : (w m i : ℕ) (bs rest : List ℕ) → i + w ≤ length bs → AllBytes bs → rest ≡ part m (i + w) bs → bytes_of w (unsigned_at w i bs) ++ rest ≡ part (w + m) i bs
 number-then w m i bs rest h u e = ap (λ (t : List ℕ). t ++ rest) (bytes_unsigned w i bs h u) ∙ part_then w m i bs rest e
 
 -- a byte at place i, followed by m more bytes
-byte-then : (m i : ℕ) (bs rest : List ℕ) → i < length bs → rest ≡ part m (i + 1) bs → unsigned 1 i bs ∷ rest ≡ part (suc m) i bs
+byte-then : (m i : ℕ) (bs rest : List ℕ) → i < length bs → rest ≡ part m (i + 1) bs → unsigned_at 1 i bs ∷ rest ≡ part (suc m) i bs
 byte-then m i bs rest h e =
-    let z : unsigned 1 i bs ≡ get_or bs i 0 = omega (arith, ap (λ (n : ℕ). get_or bs n 0) (add-zero i)) in
+    let z : unsigned_at 1 i bs ≡ get_or bs i 0 = omega (arith, ap (λ (n : ℕ). get_or bs n 0) (add-zero i)) in
     ap2 ◌∷◌ z e ∙ ap (take (suc m)) (sym (drop_more bs i 0 h))
 
 -- the bytes of a record that was decoded are the bytes that it was decoded from
-encode-decoded : (k : Kind) (bs : List ℕ) → bodyLen k ≤ length bs → Bytes bs → encode (decode k bs) ≡ byte_of k ∷ take (bodyLen k) bs
+encode-decoded : (k : Kind) (bs : List ℕ) → body_len_of k ≤ length bs → AllBytes bs → encoding_of (content_from k bs) ≡ byte_of k ∷ take (body_len_of k) bs
 encode-decoded SetUp bs l u =
     ap (λ (t : List ℕ). 0 ∷ t) (byte-then 9 0 bs _ (omega arith) (byte-then 8 1 bs _ (omega arith) (number-then 4 4 2 bs _ (omega arith) u (bytes_unsigned 4 6 bs (omega arith) u))))
 encode-decoded Note bs l u = ap (λ (t : List ℕ). 1 ∷ t) (byte-then 8 0 bs _ (omega arith) (bytes_unsigned 8 1 bs (omega arith) u))
@@ -61,19 +61,19 @@ byte-of-kind (suc (suc (suc (suc (suc (suc (suc (suc zero)))))))) k e = ap byte_
 byte-of-kind (suc (suc (suc (suc (suc (suc (suc (suc (suc b))))))))) k e = let z : ◌≡◌ {A = ℕ} 0 1 = cc in absurd (omega arith)
 
 -- the trace has the bytes of the record that was read at `at`
-pub own-bytes : (bs : List ℕ) (at : ℕ) (k : Kind) (m : Content) → at < length bs → kind_at (get_or bs at 0) ≡ Some k → bodyLen k ≤ length (drop (at + 1) bs) → Bytes bs
-    → m ≡ decode k (drop (at + 1) bs) → part (size_of m) at bs ≡ encode m
+pub own-bytes : (bs : List ℕ) (at : ℕ) (k : Kind) (m : Content) → at < length bs → kind_at (get_or bs at 0) ≡ Some k → body_len_of k ≤ length (drop (at + 1) bs) → AllBytes bs
+    → m ≡ content_from k (drop (at + 1) bs) → part (size_of m) at bs ≡ encoding_of m
 own-bytes bs at k m h e l u d =
     let body = drop (at + 1) bs in
-    let ub : Bytes body = λ j. subst (λ (x : ℕ). x < 256) (sym (get_or-drop (at + 1) bs j 0)) (u (at + 1 + j)) in
+    let ub : AllBytes body = λ j. subst (λ (x : ℕ). x < 256) (sym (get_or-drop (at + 1) bs j 0)) (u (at + 1 + j)) in
     let ks : kind_of m ≡ k = ap kind_of d ∙ kind-decoded k body in
-    ap2 take (ap (λ (n : Kind). 1 + bodyLen n) ks ∙ one-add (bodyLen k)) (drop_more bs at 0 h)
-    ∙ ap (λ (b : ℕ). b ∷ take (bodyLen k) body) (sym (byte-of-kind (get_or bs at 0) k e))
+    ap2 take (ap (λ (n : Kind). 1 + body_len_of n) ks ∙ one-add (body_len_of k)) (drop_more bs at 0 h)
+    ∙ ap (λ (b : ℕ). b ∷ take (body_len_of k) body) (sym (byte-of-kind (get_or bs at 0) k e))
     ∙ sym (encode-decoded k body l ub)
-    ∙ ap encode (sym d)
+    ∙ ap encoding_of (sym d)
 
 -- a key within a body is a part of the trace
-pub key-within : (k : Kind) (at : ℕ) (bs : List ℕ) → keyWithin k (at + 1) (drop (at + 1) bs) ≡ keyPart k at bs
+pub key-within : (k : Kind) (at : ℕ) (bs : List ℕ) → key_in_body k (at + 1) (drop (at + 1) bs) ≡ key_in_trace k at bs
 key-within SetUp at bs = refl
 key-within Note at bs = refl
 key-within Send at bs = refl

@@ -5,12 +5,12 @@ use Rattle.std.proofs.lemmas.List.{get_or-append-add, length-take-le}
 use Rattle.std.proofs.lemmas.Bool.{leb-true}
 use Rattle.trace.specs.declared.kind.Kind.{Kind}
 use Rattle.trace.specs.declared.kind.Kind.TheVariants.{SetUp, Note, Send, Receipt, Loss, PutPoint, PutTag, ReadPoint, ReadTag}
-use Rattle.trace.specs.Numbers.{unsigned, signed, signedBytes}
-use Rattle.trace.specs.Kinds.{kind_at, byte_of, bodyLen}
-use Rattle.trace.specs.Contents.{Content, set-up, note, send, receipt, loss, put-point, put-tag, read-point, read-tag, kind_of, size_of, body_of, encode}
-use Rattle.trace.specs.Ranges.{InRange}
-use Rattle.trace.specs.Format.{part, decode, parse}
-use Rattle.trace.specs.Writing.{over, room, writtenTo, written, reread}
+use Rattle.trace.specs.Numbers.{unsigned_at, signed_at, signed_bytes_of}
+use Rattle.trace.specs.Kinds.{kind_at, byte_of, body_len_of}
+use Rattle.trace.specs.Contents.{Content, set_up, note, send, receipt, loss, put_point, put_tag, read_point, read_tag, kind_of, size_of, body_of, encoding_of}
+use Rattle.trace.specs.Ranges.{IsInRange}
+use Rattle.trace.specs.Format.{part, content_from, finding_at}
+use Rattle.trace.specs.Writing.{overlay, is_within, write_answer, buffer_after_write, read_back_answer}
 use Rattle.trace.proofs.Numbers.{unsigned_bytes, signed-bytes}
 use Rattle.trace.proofs.Parsing.{parse-found}
 use Rattle.trace.proofs.Reading.{ap2}
@@ -23,58 +23,58 @@ key-rest : (n : ℕ) (t u post : List ℕ) → length t ≡ n → drop n ((t ++ 
 key-rest n t u post l = ap (drop n) (append_assoc t u post) ∙ drop_at t (u ++ post) n l
 
 -- the body of a record, whatever follows it, is decoded to that record
-decode-body : (m : Content) (post : List ℕ) → InRange m → decode (kind_of m) (body_of m ++ post) ≡ m
-decode-body (set-up n k l b) post s =
-    let bs = body_of (set-up n k l b) ++ post in
-    let e0 : unsigned 1 0 bs ≡ n = omega arith in
-    let e1 : unsigned 1 1 bs ≡ k = omega arith in
-    ap2 (λ (x : ℕ) (y : ℕ). set-up x y (unsigned 4 2 bs) (unsigned 4 6 bs)) e0 e1
-    ∙ ap2 (set-up n k) (unsigned_bytes 4 l 2 bs s.2 (omega arith) refl) (unsigned_bytes 4 b 6 bs s.3 (omega arith) refl)
+decode-body : (m : Content) (post : List ℕ) → IsInRange m → content_from (kind_of m) (body_of m ++ post) ≡ m
+decode-body (set_up n k l b) post s =
+    let bs = body_of (set_up n k l b) ++ post in
+    let e0 : unsigned_at 1 0 bs ≡ n = omega arith in
+    let e1 : unsigned_at 1 1 bs ≡ k = omega arith in
+    ap2 (λ (x : ℕ) (y : ℕ). set_up x y (unsigned_at 4 2 bs) (unsigned_at 4 6 bs)) e0 e1
+    ∙ ap2 (set_up n k) (unsigned_bytes 4 l 2 bs s.2 (omega arith) refl) (unsigned_bytes 4 b 6 bs s.3 (omega arith) refl)
 decode-body (note n raw) post s =
     let bs = body_of (note n raw) ++ post in
-    let e0 : unsigned 1 0 bs ≡ n = omega arith in
+    let e0 : unsigned_at 1 0 bs ≡ n = omega arith in
     ap2 note e0 (unsigned_bytes 8 raw 1 bs s.1 (omega arith) refl)
 decode-body (send n raw to m) post s =
     let bs = body_of (send n raw to m) ++ post in
-    let e0 : unsigned 1 0 bs ≡ n = omega arith in
-    let e2 : unsigned 1 9 bs ≡ to = omega arith in
-    ap2 (λ (x : ℕ) (y : ℕ). send x y (unsigned 1 9 bs) (unsigned 4 10 bs)) e0 (unsigned_bytes 8 raw 1 bs s.1 (omega arith) refl)
+    let e0 : unsigned_at 1 0 bs ≡ n = omega arith in
+    let e2 : unsigned_at 1 9 bs ≡ to = omega arith in
+    ap2 (λ (x : ℕ) (y : ℕ). send x y (unsigned_at 1 9 bs) (unsigned_at 4 10 bs)) e0 (unsigned_bytes 8 raw 1 bs s.1 (omega arith) refl)
     ∙ ap2 (send n raw) e2 (unsigned_bytes 4 m 10 bs s.3 (omega arith) refl)
 decode-body (receipt n raw m) post s =
     let bs = body_of (receipt n raw m) ++ post in
-    let e0 : unsigned 1 0 bs ≡ n = omega arith in
-    ap2 (λ (x : ℕ) (y : ℕ). receipt x y (unsigned 4 9 bs)) e0 (unsigned_bytes 8 raw 1 bs s.1 (omega arith) refl)
+    let e0 : unsigned_at 1 0 bs ≡ n = omega arith in
+    ap2 (λ (x : ℕ) (y : ℕ). receipt x y (unsigned_at 4 9 bs)) e0 (unsigned_bytes 8 raw 1 bs s.1 (omega arith) refl)
     ∙ ap (receipt n raw) (unsigned_bytes 4 m 9 bs s.2 (omega arith) refl)
 decode-body (loss m) post s = ap loss (unsigned_bytes 4 m 0 (body_of (loss m) ++ post) s (omega arith) refl)
-decode-body (put-point n raw t v) post s =
-    let bs = body_of (put-point n raw t v) ++ post in
-    let lb : 13 + 4 ≤ length bs = omega (arith, length-append (t ++ signedBytes v) post, length-append t (signedBytes v), s.2) in
-    let e0 : unsigned 1 0 bs ≡ n = omega arith in
-    ap2 (λ (x : ℕ) (y : ℕ). put-point x y (part 4 9 bs) (signed 13 bs)) e0 (unsigned_bytes 8 raw 1 bs s.1 (omega arith) refl)
-    ∙ ap2 (put-point n raw) (key-part 4 t (signedBytes v) post s.2) (signed-bytes v 13 bs s.3 lb (ap (take 4) (key-rest 4 t (signedBytes v) post s.2)))
-decode-body (put-tag n raw t v) post s =
-    let bs = body_of (put-tag n raw t v) ++ post in
-    let lb : 25 + 4 ≤ length bs = omega (arith, length-append (t ++ signedBytes v) post, length-append t (signedBytes v), s.2) in
-    let e0 : unsigned 1 0 bs ≡ n = omega arith in
-    ap2 (λ (x : ℕ) (y : ℕ). put-tag x y (part 16 9 bs) (signed 25 bs)) e0 (unsigned_bytes 8 raw 1 bs s.1 (omega arith) refl)
-    ∙ ap2 (put-tag n raw) (key-part 16 t (signedBytes v) post s.2) (signed-bytes v 25 bs s.3 lb (ap (take 4) (key-rest 16 t (signedBytes v) post s.2)))
-decode-body (read-point at t) post s =
-    let bs = body_of (read-point at t) ++ post in
-    ap2 read-point (unsigned_bytes 8 at 0 bs s.0 (omega arith) refl) (take_at t post 4 s.1)
-decode-body (read-tag at t) post s =
-    let bs = body_of (read-tag at t) ++ post in
-    ap2 read-tag (unsigned_bytes 8 at 0 bs s.0 (omega arith) refl) (take_at t post 16 s.1)
+decode-body (put_point n raw t v) post s =
+    let bs = body_of (put_point n raw t v) ++ post in
+    let lb : 13 + 4 ≤ length bs = omega (arith, length-append (t ++ signed_bytes_of v) post, length-append t (signed_bytes_of v), s.2) in
+    let e0 : unsigned_at 1 0 bs ≡ n = omega arith in
+    ap2 (λ (x : ℕ) (y : ℕ). put_point x y (part 4 9 bs) (signed_at 13 bs)) e0 (unsigned_bytes 8 raw 1 bs s.1 (omega arith) refl)
+    ∙ ap2 (put_point n raw) (key-part 4 t (signed_bytes_of v) post s.2) (signed-bytes v 13 bs s.3 lb (ap (take 4) (key-rest 4 t (signed_bytes_of v) post s.2)))
+decode-body (put_tag n raw t v) post s =
+    let bs = body_of (put_tag n raw t v) ++ post in
+    let lb : 25 + 4 ≤ length bs = omega (arith, length-append (t ++ signed_bytes_of v) post, length-append t (signed_bytes_of v), s.2) in
+    let e0 : unsigned_at 1 0 bs ≡ n = omega arith in
+    ap2 (λ (x : ℕ) (y : ℕ). put_tag x y (part 16 9 bs) (signed_at 25 bs)) e0 (unsigned_bytes 8 raw 1 bs s.1 (omega arith) refl)
+    ∙ ap2 (put_tag n raw) (key-part 16 t (signed_bytes_of v) post s.2) (signed-bytes v 25 bs s.3 lb (ap (take 4) (key-rest 16 t (signed_bytes_of v) post s.2)))
+decode-body (read_point at t) post s =
+    let bs = body_of (read_point at t) ++ post in
+    ap2 read_point (unsigned_bytes 8 at 0 bs s.0 (omega arith) refl) (take_at t post 4 s.1)
+decode-body (read_tag at t) post s =
+    let bs = body_of (read_tag at t) ++ post in
+    ap2 read_tag (unsigned_bytes 8 at 0 bs s.0 (omega arith) refl) (take_at t post 16 s.1)
 
-pub length-body : (m : Content) → InRange m → length (body_of m) ≡ bodyLen (kind_of m)
-length-body (set-up n k l b) s = refl
+pub length-body : (m : Content) → IsInRange m → length (body_of m) ≡ body_len_of (kind_of m)
+length-body (set_up n k l b) s = refl
 length-body (note n raw) s = refl
 length-body (send n raw to m) s = refl
 length-body (receipt n raw m) s = refl
 length-body (loss m) s = refl
-length-body (put-point n raw t v) s = omega (arith, length-append t (signedBytes v), s.2)
-length-body (put-tag n raw t v) s = omega (arith, length-append t (signedBytes v), s.2)
-length-body (read-point at t) s = omega (arith, s.1)
-length-body (read-tag at t) s = omega (arith, s.1)
+length-body (put_point n raw t v) s = omega (arith, length-append t (signed_bytes_of v), s.2)
+length-body (put_tag n raw t v) s = omega (arith, length-append t (signed_bytes_of v), s.2)
+length-body (read_point at t) s = omega (arith, s.1)
+length-body (read_tag at t) s = omega (arith, s.1)
 
 -- each kind's byte stands for it
 kind-of-byte : (k : Kind) → kind_at (byte_of k) ≡ Some k
@@ -89,40 +89,40 @@ kind-of-byte ReadPoint = refl
 kind-of-byte ReadTag = refl
 
 -- what stands behind `pre`
-parse-behind : (pre body : List ℕ) (k : Kind) → bodyLen k ≤ length body → parse (pre ++ (byte_of k ∷ body)) (length pre) ≡ Ok (Some (length pre, decode k body))
+parse-behind : (pre body : List ℕ) (k : Kind) → body_len_of k ≤ length body → finding_at (pre ++ (byte_of k ∷ body)) (length pre) ≡ Ok (Some (length pre, content_from k body))
 parse-behind pre body k l =
     let bs = pre ++ (byte_of k ∷ body) in
     let at = length pre in
     let eb : get_or bs at 0 ≡ byte_of k = ap (λ (n : ℕ). get_or bs n 0) (sym (add-zero at)) ∙ get_or-append-add pre (byte_of k ∷ body) 0 0 in
     let ed : drop (at + 1) bs ≡ body = drop-append-add pre (byte_of k ∷ body) 1 in
     let lt : at < length bs = omega (arith, length-append pre (byte_of k ∷ body)) in
-    let lb : bodyLen k ≤ length (drop (at + 1) bs) = omega (arith, ap length ed) in
-    parse-found bs at k lt (ap kind_at eb ∙ kind-of-byte k) lb ∙ ap (λ (b : List ℕ). Ok (Some (at, decode k b))) ed
+    let lb : body_len_of k ≤ length (drop (at + 1) bs) = omega (arith, ap length ed) in
+    parse-found bs at k lt (ap kind_at eb ∙ kind-of-byte k) lb ∙ ap (λ (b : List ℕ). Ok (Some (at, content_from k b))) ed
 
-pub read-written : (m : Content) (pre post : List ℕ) → InRange m → parse (pre ++ (encode m ++ post)) (length pre) ≡ Ok (Some (length pre, m))
+pub read-written : (m : Content) (pre post : List ℕ) → IsInRange m → finding_at (pre ++ (encoding_of m ++ post)) (length pre) ≡ Ok (Some (length pre, m))
 read-written m pre post s =
     parse-behind pre (body_of m ++ post) (kind_of m) (omega (arith, length-append (body_of m) post, length-body m s))
     ∙ ap (λ (x : Content). Ok (Some (length pre, x))) (decode-body m post s)
 
 -- a record that was written over a buffer stands there
-pub read-over : (m : Content) (place : ℕ) (buffer : List ℕ) → InRange m → place ≤ length buffer → parse (over place (encode m) buffer) place ≡ Ok (Some (place, m))
-unfolding over
+pub read-over : (m : Content) (place : ℕ) (buffer : List ℕ) → IsInRange m → place ≤ length buffer → finding_at (overlay place (encoding_of m) buffer) place ≡ Ok (Some (place, m))
+unfolding overlay
 read-over m place buffer s h =
     let pre = take place buffer in
     let l : length pre ≡ place = length-take-le place buffer h in
-    let bs = over place (encode m) buffer in
-    subst (λ (n : ℕ). parse bs n ≡ Ok (Some (n, m))) l (read-written m pre (drop (place + length (encode m)) buffer) s)
+    let bs = overlay place (encoding_of m) buffer in
+    subst (λ (n : ℕ). finding_at bs n ≡ Ok (Some (n, m))) l (read-written m pre (drop (place + length (encoding_of m)) buffer) s)
 
 -- a record that the writer took is read back
-pub read_back : (m : Content) (place n : ℕ) (was after : List ℕ) → ◌≡◌ {A = Result ℕ ℕ} (Ok n) (writtenTo m place was) → after ≡ written m place was → InRange m
-    → (parse after place ≡ Ok (Some (place, m))) × (reread m place was ≡ Ok (place, m))
-read_back m place n was after e w s = go (room place (size_of m) was) refl
+pub read_back : (m : Content) (place n : ℕ) (was after : List ℕ) → ◌≡◌ {A = Result ℕ ℕ} (Ok n) (write_answer m place was) → after ≡ buffer_after_write m place was → IsInRange m
+    → (finding_at after place ≡ Ok (Some (place, m))) × (read_back_answer m place was ≡ Ok (place, m))
+read_back m place n was after e w s = go (is_within place (size_of m) was) refl
   where
-    go : (b : Bool) → room place (size_of m) was ≡ b → (parse after place ≡ Ok (Some (place, m))) × (reread m place was ≡ Ok (place, m))
+    go : (b : Bool) → is_within place (size_of m) was ≡ b → (finding_at after place ≡ Ok (Some (place, m))) × (read_back_answer m place was ≡ Ok (place, m))
     go true q =
         let h : place ≤ length was = omega (arith, leb-true (place + size_of m) (length was) q) in
-        let a : after ≡ over place (encode m) was = w ∙ ap (λ (b : Bool). cond b (over place (encode m) was) was) q in
-        (ap (λ (bs : List ℕ). parse bs place) a ∙ read-over m place was s h, ap (λ (b : Bool). cond b (Ok (place, m)) (Err 19)) q)
+        let a : after ≡ overlay place (encoding_of m) was = w ∙ ap (λ (b : Bool). cond b (overlay place (encoding_of m) was) was) q in
+        (ap (λ (bs : List ℕ). finding_at bs place) a ∙ read-over m place was s h, ap (λ (b : Bool). cond b (Ok (place, m)) (Err 19)) q)
     go false q =
         let f : ◌≡◌ {A = Result ℕ ℕ} (Ok n) (Err 19) = e ∙ ap (λ (b : Bool). cond b (Ok (place + size_of m)) (Err 19)) q in
         let z : ◌≡◌ {A = ℕ} 0 1 = cc in absurd (omega arith)

@@ -25,13 +25,13 @@ byte_of ReadPoint = 7
 byte_of ReadTag = 8
 
 -- how many bytes follow the byte of kind
-abbrev pub bodyLen : Kind → ℕ
-bodyLen SetUp = 10
-bodyLen Note = 9
-bodyLen Send = 14
-bodyLen Receipt = 13
-bodyLen Loss = 4
-bodyLen PutPoint = 17
-bodyLen PutTag = 29
-bodyLen ReadPoint = 12
-bodyLen ReadTag = 24
+abbrev pub body_len_of : Kind → ℕ
+body_len_of SetUp = 10
+body_len_of Note = 9
+body_len_of Send = 14
+body_len_of Receipt = 13
+body_len_of Loss = 4
+body_len_of PutPoint = 17
+body_len_of PutTag = 29
+body_len_of ReadPoint = 12
+body_len_of ReadTag = 24

@@ -3,5 +3,6 @@ pub mod Kinds
 pub mod Contents
 pub mod Ranges
 pub mod Format
+pub mod Readers
 pub mod Writing
 pub mod Whole

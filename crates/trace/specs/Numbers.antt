@@ -4,24 +4,24 @@ use Rattle.std.proofs.Common.{to_z, of_z}
 use Rattle.std.specs.Int.{w32}
 
 -- the number in the w bytes from place i on
-abbrev pub unsigned : ℕ → ℕ → List ℕ → ℕ
-unsigned zero i bs = 0
-unsigned (suc w) i bs = unsigned w i bs * 256 + slice_index bs (i + w)
+abbrev pub unsigned_at : ℕ → ℕ → List ℕ → ℕ
+unsigned_at zero i bs = 0
+unsigned_at (suc w) i bs = unsigned_at w i bs * 256 + slice_index bs (i + w)
 
 -- the number in the four bytes from place i on, in two's complement
-abbrev pub signed : ℕ → List ℕ → ℤ
-signed i bs = to_z w32 (unsigned 4 i bs)
+abbrev pub signed_at : ℕ → List ℕ → ℤ
+signed_at i bs = to_z w32 (unsigned_at 4 i bs)
 
 -- the byte of n that has w bytes below it
-abbrev pub byte : ℕ → ℕ → ℕ
-byte zero n = n % 256
-byte (suc w) n = n / 256 ^ suc w % 256
+abbrev pub byte_at : ℕ → ℕ → ℕ
+byte_at zero n = n % 256
+byte_at (suc w) n = n / 256 ^ suc w % 256
 
 -- the w lowest bytes of n, highest first
 abbrev pub bytes_of : ℕ → ℕ → List ℕ
 bytes_of zero n = []
-bytes_of (suc w) n = byte w n ∷ bytes_of w n
+bytes_of (suc w) n = byte_at w n ∷ bytes_of w n
 
 -- the four bytes of a signed number, in two's complement
-abbrev pub signedBytes : ℤ → List ℕ
-signedBytes z = bytes_of 4 (of_z w32 z)
+abbrev pub signed_bytes_of : ℤ → List ℕ
+signed_bytes_of z = bytes_of 4 (of_z w32 z)

@@ -2,11 +2,11 @@
 ghost use Rattle.std.specs.Prelude.{◌≡◌};
 ghost use Rattle.std.specs.Option.{ok_or};
 ghost use Rattle.refusals.specs.Refusals.{shown};
-ghost use Rattle.trace.specs.Kinds.{kind_at, byte_of, bodyLen};
+ghost use Rattle.trace.specs.Kinds.{kind_at, byte_of, body_len_of};
 
 use refusals::refusal::Refusal;
 
-#[derive(Clone, Copy)]
+#[derive(Clone, Copy, PartialEq, Eq, Debug)]
 pub enum Kind {
     SetUp,
     Note,
@@ -22,7 +22,7 @@ pub enum Kind {
 impl Kind {
     // The kind that this byte stands for, refused where there is none.
     pub fn from_byte(byte: u8) -> Result<Kind, Refusal>
-        ensures { shown (λ k. k) result ≡ ok_or (kind_at byte) 1 }
+        ensures { shown result ≡ ok_or (kind_at byte) 1 }
     {
         match byte {
             0 => Ok(Kind::SetUp),
@@ -57,7 +57,7 @@ impl Kind {
 
     // How many bytes follow the byte of kind.
     pub fn body_len(self) -> usize
-        ensures { result ≡ bodyLen self }
+        ensures { result ≡ body_len_of self }
     {
         match self {
             Kind::SetUp => 10,

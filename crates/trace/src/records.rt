@@ -1,6 +1,6 @@
 // A record of a trace.
 ghost use Rattle.std.specs.Prelude.{◌≡◌};
-ghost use Rattle.trace.specs.Contents.{contentOf, kind_of, size_of};
+ghost use Rattle.trace.specs.Contents.{content_of, kind_of, size_of};
 
 use crate::kind::Kind;
 
@@ -11,11 +11,13 @@ pub struct KeyField<'a, const N: usize> {
     pub bytes: &'a [u8; N],
 }
 
-// What one record says. A raw number is a node's own count of time, and `at` the stamp that a read asks about.
+// What one record says. A raw number is a node's own count of time, and `at` the stamp that a read
+// asks about.
 #[derive(Clone, Copy)]
 pub enum Record<'a> {
-    // How many nodes there are, their key kind (0 for points, 1 for tags), how far a message's time may
-    // lead the reading of the node that receives it, and the largest step back of a clock; both in milliseconds.
+    // How many nodes there are, their key kind (0 for points, 1 for tags), how far a message's time
+    // may lead the reading of the node that receives it, and the largest step back of a clock; both
+    // in milliseconds.
     SetUp {
         nodes: u8,
         key_kind: u8,
@@ -64,7 +66,7 @@ pub enum Record<'a> {
 
 impl Record<'_> {
     pub fn kind(&self) -> Kind
-        ensures { result ≡ kind_of (contentOf self.now) }
+        ensures { result ≡ kind_of (content_of self.now) }
     {
         match self {
             Record::SetUp { .. } => Kind::SetUp,
@@ -81,7 +83,7 @@ impl Record<'_> {
 
     // How many bytes the record takes in a trace, its byte of kind included.
     pub fn size(&self) -> usize
-        ensures { result ≡ size_of (contentOf self.now) }
+        ensures { result ≡ size_of (content_of self.now) }
     {
         1 + self.kind().body_len()
     }

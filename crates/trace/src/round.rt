@@ -1,9 +1,10 @@
-// The round trips: a record that was written reads back as it was, and one that was read is written as it stood.
+// The round trips: a record that was written reads back as it was, and one that was read is written
+// as it stood.
 ghost use Rattle.std.specs.Prelude.{◌≡◌, IfOk};
-ghost use Rattle.refusals.specs.Refusals.{shown};
-ghost use Rattle.trace.specs.Contents.{contentOf};
-ghost use Rattle.trace.specs.Format.{entry_of, parse, Stands};
-ghost use Rattle.trace.specs.Writing.{written, reread, copiedTo, copied};
+ghost use Rattle.refusals.specs.Refusals.{shown, result_map};
+ghost use Rattle.trace.specs.Contents.{content_of};
+ghost use Rattle.trace.specs.Format.{entry_of, finding_at, Stands};
+ghost use Rattle.trace.specs.Writing.{buffer_after_write, read_back_answer, copy_answer, buffer_after_copy};
 
 use crate::reader::entry_at;
 use crate::records::{Entry, Record};
@@ -16,11 +17,13 @@ pub struct ReadBack<'b> {
     pub buffer: &'b [u8],
 }
 
-// Writes the record over the buffer from `place` on, and answers what the reader finds there. The buffer
-// is handed back for reading, also where the record does not fit.
+// Writes the record over the buffer from `place` on, and answers what the reader finds there. The
+// buffer is handed back for reading, also where the record does not fit.
 pub fn write_and_read<'b>(record: &Record, buffer: &'b mut [u8], place: usize) -> ReadBack<'b>
-    ensures answer { shown entry_of result.found ≡ reread (contentOf «record».now) place buffer.old }
-    ensures buffer { result.buffer.now ≡ written (contentOf «record».now) place buffer.old }
+    ensures answer { shown (result_map entry_of result.found)
+        ≡ read_back_answer (content_of «record».now) place buffer.old }
+    ensures buffer { result.buffer.now
+        ≡ buffer_after_write (content_of «record».now) place buffer.old }
     ensures stands { IfOk result.found (λ e. Stands result.buffer.now e) }
 {
     if let Err(refusal) = record.write_to(buffer, place) {
@@ -37,16 +40,17 @@ pub fn write_and_read<'b>(record: &Record, buffer: &'b mut [u8], place: usize) -
     }
 }
 
-// Copies the record that stands at `offset` of the trace over the buffer from `place` on, and answers the
-// place behind it; none at the end of the trace.
+// Copies the record that stands at `offset` of the trace over the buffer from `place` on, and
+// answers the place behind it; none at the end of the trace.
 pub fn copy_record(
     trace: &[u8],
     offset: usize,
     buffer: &mut [u8],
     place: usize,
 ) -> Result<Option<usize>, Refusal>
-    ensures answer { shown (λ n. n) result ≡ copiedTo (parse trace.now offset) place buffer.old }
-    ensures buffer { buffer.new ≡ copied trace.now (parse trace.now offset) place buffer.old }
+    ensures answer { shown result ≡ copy_answer (finding_at trace.now offset) place buffer.old }
+    ensures buffer { buffer.new
+        ≡ buffer_after_copy trace.now (finding_at trace.now offset) place buffer.old }
 {
     let Some(entry) = entry_at(trace, offset)? else {
         return Ok(None);

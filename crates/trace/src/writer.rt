@@ -1,19 +1,21 @@
-// Writes records into a lent buffer. Each function writes from `place` on and answers the place behind.
+// Writes records into a lent buffer. Each function writes from `place` on and answers the place
+// behind.
 ghost use Rattle.std.specs.Prelude.{◌≡◌, ◌+◌, ◌≤◌, ◌∷◌, ◌++◌, length, OnOk};
 ghost use Rattle.refusals.specs.Refusals.{shown};
-ghost use Rattle.trace.specs.Numbers.{bytes_of, signedBytes};
-ghost use Rattle.trace.specs.Kinds.{bodyLen};
-ghost use Rattle.trace.specs.Contents.{contentOf, kind_of, body_of};
-ghost use Rattle.trace.specs.Ranges.{InRange};
-ghost use Rattle.trace.specs.Writing.{Wrote, writtenTo, written};
+ghost use Rattle.trace.specs.Numbers.{bytes_of, signed_bytes_of};
+ghost use Rattle.trace.specs.Kinds.{body_len_of};
+ghost use Rattle.trace.specs.Contents.{set_up, send, receipt, content_of, kind_of, body_of};
+ghost use Rattle.trace.specs.Ranges.{IsInRange};
+ghost use Rattle.trace.specs.Writing.{overlay, write_answer, buffer_after_write};
 
-use crate::records::Record;
+use crate::records::{KeyField, Record};
 use refusals::refusal::Refusal;
 
+#[tactic(auto, unfolding(crate::specs::Writing::overlay))]
 fn put(buffer: &mut [u8], place: usize, bytes: &[u8]) -> usize
     requires { place + length bytes.now ≤ length buffer.old }
     ensures place { result ≡ place + length bytes.now }
-    ensures after { Wrote place bytes.now buffer.old buffer.new }
+    ensures after { buffer.new ≡ overlay place bytes.now buffer.old }
 {
     let end = place + bytes.len();
     buffer[place..end].copy_from_slice(bytes);
@@ -23,7 +25,7 @@ fn put(buffer: &mut [u8], place: usize, bytes: &[u8]) -> usize
 fn put_u32(buffer: &mut [u8], place: usize, number: u32) -> usize
     requires { place + 4 ≤ length buffer.old }
     ensures place { result ≡ place + 4 }
-    ensures after { Wrote place (bytes_of 4 number) buffer.old buffer.new }
+    ensures after { buffer.new ≡ overlay place (bytes_of 4 number) buffer.old }
 {
     put(buffer, place, &number.to_be_bytes())
 }
@@ -31,7 +33,7 @@ fn put_u32(buffer: &mut [u8], place: usize, number: u32) -> usize
 fn put_i32(buffer: &mut [u8], place: usize, number: i32) -> usize
     requires { place + 4 ≤ length buffer.old }
     ensures place { result ≡ place + 4 }
-    ensures after { Wrote place (signedBytes number) buffer.old buffer.new }
+    ensures after { buffer.new ≡ overlay place (signed_bytes_of number) buffer.old }
 {
     put(buffer, place, &number.to_be_bytes())
 }
@@ -39,11 +41,12 @@ fn put_i32(buffer: &mut [u8], place: usize, number: i32) -> usize
 fn put_u64(buffer: &mut [u8], place: usize, number: u64) -> usize
     requires { place + 8 ≤ length buffer.old }
     ensures place { result ≡ place + 8 }
-    ensures after { Wrote place (bytes_of 8 number) buffer.old buffer.new }
+    ensures after { buffer.new ≡ overlay place (bytes_of 8 number) buffer.old }
 {
     put(buffer, place, &number.to_be_bytes())
 }
 
+#[tactic(auto, using(crate::proofs::Over::overlays))]
 fn put_set_up(
     buffer: &mut [u8],
     place: usize,
@@ -54,7 +57,8 @@ fn put_set_up(
 ) -> usize
     requires { place + 10 ≤ length buffer.old }
     ensures place { result ≡ place + 10 }
-    ensures after { Wrote place (nodes ∷ key_kind ∷ (bytes_of 4 lead ++ bytes_of 4 backstep)) buffer.old buffer.new }
+    ensures after { buffer.new
+        ≡ overlay place (body_of (set_up nodes key_kind lead backstep)) buffer.old }
 {
     let behind_kind = put(buffer, place, &[nodes, key_kind]);
     let behind_lead = put_u32(buffer, behind_kind, lead);
@@ -62,10 +66,11 @@ fn put_set_up(
 }
 
 // What every event begins with: its node, and the raw number of that node's clock.
+#[tactic(auto, using(crate::proofs::Over::overlays))]
 fn put_origin(buffer: &mut [u8], place: usize, node: u8, raw: u64) -> usize
     requires { place + 9 ≤ length buffer.old }
     ensures place { result ≡ place + 9 }
-    ensures after { Wrote place (node ∷ bytes_of 8 raw) buffer.old buffer.new }
+    ensures after { buffer.new ≡ overlay place (node ∷ bytes_of 8 raw) buffer.old }
 {
     let behind_node = put(buffer, place, &[node]);
     put_u64(buffer, behind_node, raw)
@@ -74,7 +79,7 @@ fn put_origin(buffer: &mut [u8], place: usize, node: u8, raw: u64) -> usize
 fn put_send(buffer: &mut [u8], place: usize, node: u8, raw: u64, to: u8, message: u32) -> usize
     requires { place + 14 ≤ length buffer.old }
     ensures place { result ≡ place + 14 }
-    ensures after { Wrote place (node ∷ (bytes_of 8 raw ++ (to ∷ bytes_of 4 message))) buffer.old buffer.new }
+    ensures after { buffer.new ≡ overlay place (body_of (send node raw to message)) buffer.old }
 {
     let behind_raw = put_origin(buffer, place, node, raw);
     let behind_to = put(buffer, behind_raw, &[to]);
@@ -84,17 +89,19 @@ fn put_send(buffer: &mut [u8], place: usize, node: u8, raw: u64, to: u8, message
 fn put_receipt(buffer: &mut [u8], place: usize, node: u8, raw: u64, message: u32) -> usize
     requires { place + 13 ≤ length buffer.old }
     ensures place { result ≡ place + 13 }
-    ensures after { Wrote place (node ∷ (bytes_of 8 raw ++ bytes_of 4 message)) buffer.old buffer.new }
+    ensures after { buffer.new ≡ overlay place (body_of (receipt node raw message)) buffer.old }
 {
     let behind_raw = put_origin(buffer, place, node, raw);
     put_u32(buffer, behind_raw, message)
 }
 
 // A put by a key of either kind.
+#[tactic(auto, using(crate::proofs::Over::overlays))]
 fn put_version(buffer: &mut [u8], place: usize, node: u8, raw: u64, key: &[u8], value: i32) -> usize
     requires { place + 13 + length key.now ≤ length buffer.old }
     ensures place { result ≡ place + 13 + length key.now }
-    ensures after { Wrote place (node ∷ (bytes_of 8 raw ++ (key.now ++ signedBytes value))) buffer.old buffer.new }
+    ensures after { buffer.new
+        ≡ overlay place (node ∷ (bytes_of 8 raw ++ (key.now ++ signed_bytes_of value))) buffer.old }
 {
     let behind_raw = put_origin(buffer, place, node, raw);
     let behind_key = put(buffer, behind_raw, key);
@@ -102,20 +109,21 @@ fn put_version(buffer: &mut [u8], place: usize, node: u8, raw: u64, key: &[u8], 
 }
 
 // A read by a key of either kind.
+#[tactic(auto, using(crate::proofs::Over::overlays))]
 fn put_read(buffer: &mut [u8], place: usize, at: u64, key: &[u8]) -> usize
     requires { place + 8 + length key.now ≤ length buffer.old }
     ensures place { result ≡ place + 8 + length key.now }
-    ensures after { Wrote place (bytes_of 8 at ++ key.now) buffer.old buffer.new }
+    ensures after { buffer.new ≡ overlay place (bytes_of 8 at ++ key.now) buffer.old }
 {
     let behind_at = put_u64(buffer, place, at);
     put(buffer, behind_at, key)
 }
 
 fn put_body(record: &Record, buffer: &mut [u8], place: usize) -> usize
-    requires { place + bodyLen (kind_of (contentOf «record».now)) ≤ length buffer.old }
-    ensures place { result ≡ place + bodyLen (kind_of (contentOf «record».now)) }
-    ensures after { Wrote place (body_of (contentOf «record».now)) buffer.old buffer.new }
-    ensures ranges { InRange (contentOf «record».now) }
+    requires { place + body_len_of (kind_of (content_of «record».now)) ≤ length buffer.old }
+    ensures place { result ≡ place + body_len_of (kind_of (content_of «record».now)) }
+    ensures after { buffer.new ≡ overlay place (body_of (content_of «record».now)) buffer.old }
+    ensures ranges { IsInRange (content_of «record».now) }
 {
     match *record {
         Record::SetUp {
@@ -136,39 +144,33 @@ fn put_body(record: &Record, buffer: &mut [u8], place: usize) -> usize
         Record::PutPoint {
             node,
             raw,
-            key,
+            key: KeyField { bytes, .. },
             value,
-        } => {
-            let bytes = key.bytes;
-            put_version(buffer, place, node, raw, bytes, value)
-        }
+        } => put_version(buffer, place, node, raw, bytes, value),
         Record::PutTag {
             node,
             raw,
-            key,
+            key: KeyField { bytes, .. },
             value,
-        } => {
-            let bytes = key.bytes;
-            put_version(buffer, place, node, raw, bytes, value)
-        }
-        Record::ReadPoint { at, key } => {
-            let bytes = key.bytes;
-            put_read(buffer, place, at, bytes)
-        }
-        Record::ReadTag { at, key } => {
-            let bytes = key.bytes;
-            put_read(buffer, place, at, bytes)
-        }
+        } => put_version(buffer, place, node, raw, bytes, value),
+        Record::ReadPoint {
+            at,
+            key: KeyField { bytes, .. },
+        } => put_read(buffer, place, at, bytes),
+        Record::ReadTag {
+            at,
+            key: KeyField { bytes, .. },
+        } => put_read(buffer, place, at, bytes),
     }
 }
 
 impl Record<'_> {
-    // Writes the record over the buffer from `place` on and answers the place behind it. Where the record
-    // does not fit, no byte changes.
+    // Writes the record over the buffer from `place` on and answers the place behind it. Where the
+    // record does not fit, no byte changes.
     pub fn write_to(&self, buffer: &mut [u8], place: usize) -> Result<usize, Refusal>
-        ensures answer { shown (λ n. n) result ≡ writtenTo (contentOf self.now) place buffer.old }
-        ensures buffer { buffer.new ≡ written (contentOf self.now) place buffer.old }
-        ensures ranges { OnOk result (InRange (contentOf self.now)) }
+        ensures answer { shown result ≡ write_answer (content_of self.now) place buffer.old }
+        ensures buffer { buffer.new ≡ buffer_after_write (content_of self.now) place buffer.old }
+        ensures ranges { OnOk result (IsInRange (content_of self.now)) }
     {
         if buffer.len() < place || buffer.len() - place < self.size() {
             return Err(Refusal::NoRoom);

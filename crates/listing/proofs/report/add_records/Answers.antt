@@ -1,21 +1,13 @@
 use Rattle.std.proofs.Common.{◌≡◌, ℕ, ◌+◌, ◌≤◌, List, [], ◌++◌, length, Some, Ok, Err, string_bytes, sym, ap, ◌∙◌, subst, append-nil, arith, rules}
 use Rattle.refusals.specs.Refusals.{number_of}
-use Rattle.trace.specs.Contents.{contentOf, size_of}
-use Rattle.trace.specs.Format.{parse, behind, entry_of}
-use Rattle.trace.specs.Whole.{Whole, whole}
+use Rattle.trace.specs.Contents.{content_of, size_of}
+use Rattle.trace.specs.Format.{finding_at, place_behind, entry_of}
+use Rattle.trace.specs.Whole.{Whole, whole_of}
 use Rattle.trace.proofs.Whole.{rest-refused}
-use Rattle.listing.specs.Text.{recordLine, recordLines, endingLines, badLine, bodyText}
+use Rattle.listing.specs.Text.{record_line, record_lines, ending_lines, bad_line, body_text}
 use Rattle.listing.proofs.Adding.{stop, step, same_bytes}
-use Rattle.listing.proofs.Going.{Going, tail, starts, next-text, goes}
+use Rattle.listing.proofs.Progress.{HasListed, tail, next-text, goes}
 use Rattle.listing.proofs.report.add_records.Goals as goal
-
-pub loop-entry-init : goal.loop-entry-init
-loop-entry-init c =
-    let t = string_bytes c.args.text.now in (
-      subst (λ (at : ℕ). Going t t c.args.trace.now at 0) (sym c.new-reader.ensures.offset) (starts t c.args.trace.now),
-      c.new-reader.ensures.trace,
-      omega arith,
-    )
 
 pub loop-entry-preserved : goal.loop-entry-preserved
 loop-entry-preserved c =
@@ -23,23 +15,25 @@ loop-entry-preserved c =
     let at = c.loop-entry.reader.offset in
     let n = c.loop-entry.accepted in
     let entry = c.in-Ok-Some.entry in
-    let m = contentOf entry.«record» in
+    let m = content_of entry.«record» in
     let was = c.args.text.now in
     let mid = c.loop-entry.text in
     let after = c.add_record.new.text in
-    let g = c.loop-entry.invariant.0 in
-    let same = c.loop-entry.invariant.1 in
+    let g = c.loop-entry.invariant.listed in
+    let same = c.loop-entry.invariant.same in
     let found = c.in-Ok-Some.ensures in
-    let e : parse c.loop-entry.reader.trace.now at ≡ Ok (Some (entry_of entry)) = search (rules, found) in
-    let e2 : parse bs at ≡ Ok (Some (entry_of entry)) = ap (λ (x : List ℕ). parse x at) (sym same) ∙ e in
+    let e : finding_at c.loop-entry.reader.trace.now at ≡ Ok (Some (entry_of entry)) = search (rules, found) in
+    let e2 : finding_at bs at ≡ Ok (Some (entry_of entry)) = ap (λ (x : List ℕ). finding_at x at) (sym same) ∙ e in
     let h : at ≤ length bs = omega (arith, ap length same) in
-    let s = next-text bs at n entry.offset m h e2 (string_bytes mid) (string_bytes was ++ bodyText (whole bs)) g.lines in
-    let w = step was mid after (bodyText (whole bs)) (recordLine (n + 1) m) (tail bs (at + size_of m) (n + 1)) s c.loop-entry.invariant.2 c.in_ok-add_record-in-Ok-Some.ensures in
-    let q : c.next_entry.new.self.offset ≡ at + size_of m = found.offset ∙ ap (behind at) e in (
-      subst (λ (k : ℕ). Going (string_bytes was) (string_bytes after) bs k (n + 1)) (sym q) (goes bs at n entry.offset m h e2 (string_bytes was) (string_bytes mid) (string_bytes after) g w.0),
-      found.trace ∙ same,
-      w.1,
-    )
+    let s = next-text bs at n entry.offset m h e2 (string_bytes mid) (string_bytes was ++ body_text (whole_of bs)) g.lines in
+    let w = step was mid after (body_text (whole_of bs)) (record_line (n + 1) m) (tail bs (at + size_of m) (n + 1)) s c.loop-entry.invariant.grown c.in_ok-add_record-in-Ok-Some.ensures in
+    let q : c.next_entry.new.self.offset ≡ at + size_of m = found.offset ∙ ap (place_behind at) e in
+    record {
+      listed = subst (λ (k : ℕ). HasListed (string_bytes was) (string_bytes after) bs k (n + 1)) (sym q)
+          (goes bs at n entry.offset m h e2 (string_bytes was) (string_bytes mid) (string_bytes after) g w.0);
+      same = found.trace ∙ same;
+      grown = w.1;
+    }
 
 pub returns-in_err-add_record-in-Ok-Some-clause-text : goal.returns-in_err-add_record-in-Ok-Some-clause-text
 returns-in_err-add_record-in-Ok-Some-clause-text c =
@@ -47,17 +41,17 @@ returns-in_err-add_record-in-Ok-Some-clause-text c =
     let at = c.loop-entry.reader.offset in
     let n = c.loop-entry.accepted in
     let entry = c.in-Ok-Some.entry in
-    let m = contentOf entry.«record» in
+    let m = content_of entry.«record» in
     let was = c.args.text.now in
     let mid = c.loop-entry.text in
-    let same = c.loop-entry.invariant.1 in
+    let same = c.loop-entry.invariant.same in
     let found = c.in-Ok-Some.ensures in
-    let e : parse c.loop-entry.reader.trace.now at ≡ Ok (Some (entry_of entry)) = search (rules, found) in
-    let e2 : parse bs at ≡ Ok (Some (entry_of entry)) = ap (λ (x : List ℕ). parse x at) (sym same) ∙ e in
+    let e : finding_at c.loop-entry.reader.trace.now at ≡ Ok (Some (entry_of entry)) = search (rules, found) in
+    let e2 : finding_at bs at ≡ Ok (Some (entry_of entry)) = ap (λ (x : List ℕ). finding_at x at) (sym same) ∙ e in
     let h : at ≤ length bs = omega (arith, ap length same) in
-    let s = next-text bs at n entry.offset m h e2 (string_bytes mid) (string_bytes was ++ bodyText (whole bs)) c.loop-entry.invariant.0.lines in
-    stop was mid c.add_record.new.text (bodyText (whole bs)) (recordLine (n + 1) m) (tail bs (at + size_of m) (n + 1)) c.from_residual.result s c.loop-entry.invariant.2
-          c.in_err-add_record-in-Ok-Some.ensures c.from_residual.ensures.0
+    let s = next-text bs at n entry.offset m h e2 (string_bytes mid) (string_bytes was ++ body_text (whole_of bs)) c.loop-entry.invariant.listed.lines in
+    stop was mid c.add_record.new.text (body_text (whole_of bs)) (record_line (n + 1) m) (tail bs (at + size_of m) (n + 1)) c.from_residual.result s c.loop-entry.invariant.grown
+    c.in_err-add_record-in-Ok-Some.ensures c.from_residual.ensures.0
 
 pub returns-in_err-add_bad-in-Err-clause-text : goal.returns-in_err-add_bad-in-Err-clause-text
 returns-in_err-add_bad-in-Err-clause-text c =
@@ -68,12 +62,12 @@ returns-in_err-add_bad-in-Err-clause-text c =
     let mid = c.loop-entry.text in
     let after = c.add_bad.new.text in
     let found = c.in-Err.ensures in
-    let e : parse c.loop-entry.reader.trace.now at ≡ Err k = sym found.answer in
-    let e2 : parse bs at ≡ Err k = ap (λ (x : List ℕ). parse x at) (sym c.loop-entry.invariant.1) ∙ e in
-    let q : c.offset.result ≡ at = c.offset.ensures ∙ found.offset ∙ ap (behind at) e in
-    let line : tail bs at c.loop-entry.accepted ≡ badLine k at = ap (λ (w : Whole). recordLines (c.loop-entry.accepted + 1) w.records ++ endingLines w.ending) (rest-refused bs at k e2) in
-    let s : string_bytes mid ++ (badLine k at ++ []) ≡ string_bytes was ++ bodyText (whole bs) =
-    ap (λ (t : List ℕ). string_bytes mid ++ t) (append-nil (badLine k at) ∙ sym line) ∙ c.loop-entry.invariant.0.lines in
-    stop was mid after (bodyText (whole bs)) (badLine k at) [] c.from_residual-in_err-add_bad-in-Err.result s c.loop-entry.invariant.2
-          (same_bytes mid after (badLine k c.offset.result) (badLine k at) (Err c.in_err-add_bad-in-Err.field-0.0) (ap (badLine k) q) c.in_err-add_bad-in-Err.ensures)
-          c.from_residual-in_err-add_bad-in-Err.ensures.0
+    let e : finding_at c.loop-entry.reader.trace.now at ≡ Err k = sym found.answer in
+    let e2 : finding_at bs at ≡ Err k = ap (λ (x : List ℕ). finding_at x at) (sym c.loop-entry.invariant.same) ∙ e in
+    let q : c.offset.result ≡ at = c.offset.ensures ∙ found.offset ∙ ap (place_behind at) e in
+    let line : tail bs at c.loop-entry.accepted ≡ bad_line k at = ap (λ (w : Whole). record_lines (c.loop-entry.accepted + 1) w.records ++ ending_lines w.ending) (rest-refused bs at k e2) in
+    let s : string_bytes mid ++ (bad_line k at ++ []) ≡ string_bytes was ++ body_text (whole_of bs) =
+    ap (λ (t : List ℕ). string_bytes mid ++ t) (append-nil (bad_line k at) ∙ sym line) ∙ c.loop-entry.invariant.listed.lines in
+    stop was mid after (body_text (whole_of bs)) (bad_line k at) [] c.from_residual-in_err-add_bad-in-Err.result s c.loop-entry.invariant.grown
+    (same_bytes mid after (bad_line k c.offset.result) (bad_line k at) (Err c.in_err-add_bad-in-Err.field-0.0) (ap (bad_line k) q) c.in_err-add_bad-in-Err.ensures)
+    c.from_residual-in_err-add_bad-in-Err.ensures.0

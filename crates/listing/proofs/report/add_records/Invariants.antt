@@ -1,12 +1,9 @@
-use Rattle.std.proofs.Common.{◌≡◌, ◌-◌, ◌≤◌, length, string_bytes, string_capacity}
-use Rattle.listing.proofs.Going.{Going}
+use Rattle.std.proofs.Common.{◌-◌, length}
+use Rattle.listing.proofs.Progress.{Listing}
 use Rattle.listing.proofs.report.add_records.Given as goal
 
 abbrev pub invariant-loop-entry : goal.invariant-loop-entry
-invariant-loop-entry l =
-    Going (string_bytes l.initial.text) (string_bytes l.text) l.trace l.reader.offset l.accepted
-    × (l.reader.trace.now ≡ l.trace)
-    × (string_capacity l.initial.text ≤ string_capacity l.text)
+invariant-loop-entry l = Listing l.initial.text l.text l.trace l.reader l.accepted
 
 abbrev pub decreases-loop-entry : goal.decreases-loop-entry
 decreases-loop-entry l = length l.trace - l.reader.offset

@@ -1,6 +1,5 @@
-use Rattle.std.proofs.Common.{rules}
 use Rattle.trace.proofs.OneWay.{one_way}
 use Rattle.listing.proofs.report.is_listed.Goals as goal
 
-pub returns : goal.returns
-returns c = record { value = search rules; records = one_way c.args.trace.now (λ j. (c.type_inv.trace j).fits) }
+pub returns-clause-records : goal.returns-clause-records
+returns-clause-records c = one_way c.args.trace.now (λ j. (c.type_inv.trace j).fits)

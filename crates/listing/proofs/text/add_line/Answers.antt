@@ -1,10 +1,8 @@
 use Rattle.std.proofs.Common.{ℕ, ◌+◌, ◌<◌, List, [], ◌∷◌, ◌++◌, length, get_or, drop, string_bytes, sym, ap, ◌∙◌, arith}
-use Rattle.std.proofs.lemmas.List.{drop_all}
-use Rattle.listing.specs.declared.line.Piece.{Piece}
 use Rattle.listing.specs.declared.line.Piece.TheVariants.{Word}
 use Rattle.listing.specs.declared.line.Word.TheVariants.{SetUp}
-use Rattle.listing.specs.Lines.{gap, pieceText, spaced, lineText}
-use Rattle.listing.proofs.Adding.{stop, step, onward}
+use Rattle.listing.specs.Lines.{gap, piece_text, spaced_text, line_text}
+use Rattle.listing.proofs.Adding.{stop}
 use Rattle.listing.proofs.Spacing.{next-piece}
 use Rattle.listing.proofs.text.add_line.Goals as goal
 
@@ -15,23 +13,5 @@ returns-in_err-add_spaced c =
     let text = string_bytes c.loop-i.text in
     let h : i < length ps = omega arith in
     let s = ap (λ (t : List ℕ). text ++ t) (sym (next-piece ps i (Word SetUp) h)) ∙ c.loop-i.invariant.0 in
-    stop c.args.text.now c.loop-i.text c.add_spaced.new.text (lineText ps) (gap i ++ pieceText (get_or ps i (Word SetUp))) (spaced (i + 1) (drop (i + 1) ps) ++ (10 ∷ []))
+    stop c.args.text.now c.loop-i.text c.add_spaced.new.text (line_text ps) (gap i ++ piece_text (get_or ps i (Word SetUp))) (spaced_text (i + 1) (drop (i + 1) ps) ++ (10 ∷ []))
     c.from_residual.result s c.loop-i.invariant.1 c.in_err-add_spaced.ensures c.from_residual.ensures.0
-
-pub loop-i-preserved : goal.loop-i-preserved
-loop-i-preserved c =
-    let ps = c.args.pieces.now in
-    let i = c.loop-i.i in
-    let text = string_bytes c.loop-i.text in
-    let h : i < length ps = omega arith in
-    let s = ap (λ (t : List ℕ). text ++ t) (sym (next-piece ps i (Word SetUp) h)) ∙ c.loop-i.invariant.0 in
-    step c.args.text.now c.loop-i.text c.add_spaced.new.text (lineText ps) (gap i ++ pieceText (get_or ps i (Word SetUp))) (spaced (i + 1) (drop (i + 1) ps) ++ (10 ∷ []))
-    s c.loop-i.invariant.1 c.in_ok-add_spaced.ensures
-
-pub returns : goal.returns
-returns c =
-    let ps = c.args.pieces.now in
-    let i = c.loop-i.i in
-    let text = string_bytes c.loop-i.text in
-    let e = ap (λ (t : List Piece). text ++ (spaced i t ++ (10 ∷ []))) (sym (drop_all i ps (omega arith))) in
-    onward c.args.text.now c.loop-i.text c.add_char.new.text (lineText ps) (10 ∷ []) c.add_char.result (e ∙ c.loop-i.invariant.0) c.loop-i.invariant.1 c.add_char.ensures

@@ -1,10 +1,11 @@
-use Rattle.std.proofs.Common.{◌≡◌, ◌+◌, ◌<◌, ◌≤◌, length, get_or, drop, Some, Ok, sym, ap, ◌∙◌, arith}
+use Rattle.std.proofs.Common.{◌≡◌, ◌+◌, ◌-◌, ◌<◌, ◌≤◌, length, get_or, take, drop, Some, sym, ap, ◌∙◌, arith, take_all, length-drop}
+use Rattle.std.proofs.lemmas.Grind.{common_steps}
 use Rattle.trace.specs.declared.kind.Kind.{Kind}
-use Rattle.trace.specs.Kinds.{kind_at, bodyLen}
-use Rattle.trace.specs.Contents.{Content, contentOf, kind_of}
-use Rattle.trace.specs.Format.{decode, keyPart, keyWithin}
-use Rattle.trace.proofs.Numbers.{Bytes}
-use Rattle.trace.proofs.Parsing.{parse-found, known-kind, kind-decoded}
+use Rattle.trace.specs.Kinds.{kind_at, body_len_of}
+use Rattle.trace.specs.Contents.{content_of, kind_of}
+use Rattle.trace.specs.Format.{content_from, key_in_body, key_in_trace}
+use Rattle.trace.proofs.Numbers.{AllBytes}
+use Rattle.trace.proofs.Parsing.{record-found, known-kind, kind-decoded}
 use Rattle.trace.proofs.Reading.{own-bytes, key-within}
 use Rattle.trace.proofs.reader.entry_at.Goals as goal
 
@@ -13,18 +14,20 @@ returns c =
     let bs = c.args.trace.now in
     let at = c.args.offset in
     let k = c.in_ok-kind.kind in
-    let m = contentOf c.decoded-record.result in
-    let b = c.split_at.ensures.back in
-    let lt : at < length bs = omega arith in
-    let e = known-kind (kind_at (get_or bs at 0)) k c.in_ok-kind.ensures in
-    let l : bodyLen k ≤ length (drop (at + 1) bs) = omega (arith, ap length b) in
-    let d : m ≡ decode k (drop (at + 1) bs) = c.decoded-record.ensures.content ∙ ap (decode k) b in
-    let ks : k ≡ kind_of m = sym (ap kind_of d ∙ kind-decoded k (drop (at + 1) bs)) in
-    let u : Bytes bs = λ j. (c.type_inv.trace j).fits in
+    let m = content_of c.decode-record.result in
+    let body = drop (at + 1) bs in
+    let before : at < length bs = grind (arith, common_steps) in
+    let byte : c.in-Some.field-0.now ≡ get_or bs at 0 = grind (arith, common_steps) in
+    let kind : kind_at (get_or bs at 0) ≡ Some k = ap kind_at (sym byte) ∙ known-kind (kind_at c.in-Some.field-0.now) k c.in_ok-kind.ensures in
+    let enough : body_len_of k ≤ length body = grind (arith, common_steps) in
+    let whole : take (length bs - (at + 1)) body ≡ body = take_all (length bs - (at + 1)) body (omega (arith, length-drop (at + 1) bs)) in
+    let content : m ≡ content_from k body = c.decode-record.ensures.content ∙ ap (content_from k) whole in
+    let same_kind : k ≡ kind_of m = sym (ap kind_of content ∙ kind-decoded k body) in
+    let bytes : AllBytes bs = λ j. (c.type_inv.trace j).fits in
     record {
-      answer = ap (λ (x : Content). Ok (Some (at, x))) d ∙ sym (parse-found bs at k lt e l);
+      answer = record-found bs at k m before kind enough content;
       stands = record {
-        bytes = own-bytes bs at k m lt e l u d;
-        key = c.decoded-record.ensures.key ∙ ap (keyWithin k (at + 1)) b ∙ key-within k at bs ∙ ap (λ (j : Kind). keyPart j at bs) ks;
+        bytes = own-bytes bs at k m before kind enough bytes content;
+        key = c.decode-record.ensures.key ∙ ap (key_in_body k (at + 1)) whole ∙ key-within k at bs ∙ ap (λ (j : Kind). key_in_trace j at bs) same_kind;
       };
     }

@@ -49,7 +49,7 @@ fn key_at<'a, const N: usize>(body: &'a [u8], at: usize, start: usize) -> KeyFie
     ensures bytes { result.bytes.now ≡ part N at body.now }
 {
     let Some(bytes) = body[at..].first_chunk::<N>() else {
-        unreachable()
+        unreachable!()
     };
     KeyField {
         offset: start + at,

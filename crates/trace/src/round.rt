@@ -35,8 +35,8 @@ pub fn write_and_read<'b>(record: &Record, buffer: &'b mut [u8], place: usize) -
             let found = Ok(entry);
             ReadBack { found, buffer }
         }
-        Ok(None) => unreachable(),
-        Err(_) => unreachable(),
+        Ok(None) => unreachable!(),
+        Err(_) => unreachable!(),
     }
 }
 

@@ -1,7 +1,8 @@
 -- A trace splits into records in one way, and `whole_of` gives it.
 use Rattle.std.proofs.Common.{◌≡◌, ℕ, zero, suc, ◌+◌, ◌<◌, ◌≤◌, List, [], ◌∷◌, ◌++◌, length, drop, Some, None, Ok, Err, sym, refl, ap, ◌∙◌, subst, append_assoc, append-nil, add-zero, arith, length-append, length-drop, take-append-drop, length-take-le, drop-drop, w32, Fits}
 use mir.Facts.{sfits_to_z}
-use Rattle.std.specs.List.{AllByRecursion as All}
+use Rattle.std.specs.Prelude.{All}
+use Rattle.std.proofs.lemmas.List.Elements.{All-nil, All-cons, All-head, All-tail}
 use Rattle.std.proofs.lemmas.List.{drop_all, get_or-drop}
 use Rattle.trace.specs.declared.kind.Kind.{Kind}
 use Rattle.trace.specs.declared.kind.Kind.TheVariants.{SetUp, Note, Send, Receipt, Loss, PutPoint, PutTag, ReadPoint, ReadTag}
@@ -72,13 +73,13 @@ reads zero bs at u h l = absurd (omega arith)
 reads (suc f) bs at u h l = go (finding_at bs at) refl (λ k p q. reads f bs k u q (omega arith))
   where
     go : (a : Finding) → finding_at bs at ≡ a → ((k : ℕ) → at < k → k ≤ length bs → ReadsFrom bs k (whole_from f bs k)) → ReadsFrom bs at (whole_with at a (whole_from f bs (place_behind at a)))
-    go (Err n) e later = (tt, (refl, e))
-    go (Ok None) e later = (tt, drop_all at bs (parse-none bs at e))
+    go (Err n) e later = (All-nil IsInRange, (refl, e))
+    go (Ok None) e later = (All-nil IsInRange, drop_all at bs (parse-none bs at e))
     go (Ok (Some (i, m))) e later =
         let next = at + size_of m in
         let w = parse-within bs at i m e in
         let r = later next (omega arith) (omega (arith, w)) in (
-          (found-in-range bs at i m u e, r.0),
+          All-cons IsInRange m (whole_from f bs next).records (found-in-range bs at i m u e) r.0,
           splits-more bs at next m (whole_from f bs next).records (whole_from f bs next).ending (found-bytes bs at i m u e) r.1,
         )
 
@@ -100,11 +101,12 @@ read_all : (ms : List Content) (pre post bs : List ℕ) → All IsInRange ms →
 read_all [] pre post bs a e = ap (rest bs) (sym (add-zero (length pre)))
 read_all (m ∷ ms) pre post bs a e =
     let at = length pre in
+    let first : IsInRange m = All-head IsInRange m ms a in
     let e2 : bs ≡ pre ++ (encoding_of m ++ (trace_of ms ++ post)) = e ∙ ap (λ (t : List ℕ). pre ++ t) (append_assoc (encoding_of m) (trace_of ms) post) in
-    let p : finding_at bs at ≡ Ok (Some (at, m)) = ap (λ (t : List ℕ). finding_at t at) e2 ∙ read-written m pre (trace_of ms ++ post) a.0 in
+    let p : finding_at bs at ≡ Ok (Some (at, m)) = ap (λ (t : List ℕ). finding_at t at) e2 ∙ read-written m pre (trace_of ms ++ post) first in
     let h : at ≤ length bs = omega (arith, ap length e2, length-append pre (encoding_of m ++ (trace_of ms ++ post))) in
-    let q : length (pre ++ encoding_of m) ≡ at + size_of m = length-append pre (encoding_of m) ∙ ap (λ (n : ℕ). at + n) (encode-length m a.0) in
-    let later = read_all ms (pre ++ encoding_of m) post bs a.1 (e2 ∙ sym (append_assoc pre (encoding_of m) (trace_of ms ++ post))) in
+    let q : length (pre ++ encoding_of m) ≡ at + size_of m = length-append pre (encoding_of m) ∙ ap (λ (n : ℕ). at + n) (encode-length m first) in
+    let later = read_all ms (pre ++ encoding_of m) post bs (All-tail IsInRange m ms a) (e2 ∙ sym (append_assoc pre (encoding_of m) (trace_of ms ++ post))) in
     let k : length (pre ++ encoding_of m) + length (trace_of ms) ≡ at + length (trace_of (m ∷ ms)) =
     omega (arith, length-append pre (encoding_of m), length-append (encoding_of m) (trace_of ms)) in
     rest-record bs at at m h p

@@ -1,6 +1,5 @@
 -- A whole trace: its records one after another, and how it ends.
-use Rattle.std.specs.Prelude.{◌≡◌, ℕ, zero, suc, List, [], ◌∷◌, ◌++◌, length, drop, Some, None, Ok, Err}
-use Rattle.std.specs.List.{AllByRecursion as All}
+use Rattle.std.specs.Prelude.{◌≡◌, ℕ, zero, suc, All, List, [], ◌∷◌, ◌++◌, length, drop, Some, None, Ok, Err}
 use Rattle.trace.specs.Contents.{Content, encoding_of}
 use Rattle.trace.specs.Ranges.{IsInRange}
 use Rattle.trace.specs.Format.{Finding, finding_at, place_behind}

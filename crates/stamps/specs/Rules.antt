@@ -3,7 +3,7 @@ use Rattle.std.specs.Prelude.{ℕ, ◌+◌, ◌-◌, max, if◌then◌else◌, O
 use Rattle.stamps.specs.Range.{max_counter}
 use Rattle.stamps.specs.Lead.{is_too_far_ahead}
 use Rattle.stamps.specs.Stamp.{Timestamp, stamp_of}
-use Rattle.stamps.specs.declared.mark.Mark.{Mark}
+use Rattle.stamps.specs.declared.stamped.Stamped.{Stamped}
 
 -- A note, send or put, from the node's last stamp and the reading: the time is the larger of the two; the counter goes on
 -- where the time stays, else it starts at 0.
@@ -26,30 +26,30 @@ receipt_stamp last sent reading =
     }
 
 -- What an event answers, as numbers: its stamp, and its drift, the stamp's time less the reading.
-pub record MarkNumbers : Type 0 where
+pub record StampedNumbers : Type 0 where
   pub stamp : Timestamp
   pub drift : ℕ
 
-abbrev pub mark_numbers : Mark → MarkNumbers
-mark_numbers mark = record { stamp = stamp_of mark.stamp; drift = mark.drift }
+abbrev pub stamped_numbers : Stamped → StampedNumbers
+stamped_numbers stamped = record { stamp = stamp_of stamped.stamp; drift = stamped.drift }
 
 -- a stamp with its drift from the reading, or 10 where its counter would be 65536
-abbrev pub mark_at : Timestamp → ℕ → Result MarkNumbers ℕ
-mark_at stamp reading =
+abbrev pub event_answer : Timestamp → ℕ → Result StampedNumbers ℕ
+event_answer stamp reading =
     (if nat_le stamp.counter max_counter then Ok (record { stamp = stamp; drift = stamp.time - reading }) else Err 10)
 
 -- what a note, send or put answers
-abbrev pub own_mark : Timestamp → ℕ → Result MarkNumbers ℕ
-own_mark last reading = mark_at (own_stamp last reading) reading
+abbrev pub own_answer : Timestamp → ℕ → Result StampedNumbers ℕ
+own_answer last reading = event_answer (own_stamp last reading) reading
 
 -- what a receipt answers
-abbrev pub receipt_mark : Timestamp → Timestamp → ℕ → Result MarkNumbers ℕ
-receipt_mark last sent reading = mark_at (receipt_stamp last sent reading) reading
+abbrev pub receipt_answer : Timestamp → Timestamp → ℕ → Result StampedNumbers ℕ
+receipt_answer last sent reading = event_answer (receipt_stamp last sent reading) reading
 
 -- what a receipt answers where messages may be ahead by the lead: 15, then 10
-abbrev pub lead_receipt_mark : ℕ → Timestamp → Timestamp → ℕ → Result MarkNumbers ℕ
-lead_receipt_mark lead last sent reading =
-    (if is_too_far_ahead lead sent.time reading then Err 15 else receipt_mark last sent reading)
+abbrev pub lead_receipt_answer : ℕ → Timestamp → Timestamp → ℕ → Result StampedNumbers ℕ
+lead_receipt_answer lead last sent reading =
+    (if is_too_far_ahead lead sent.time reading then Err 15 else receipt_answer last sent reading)
 
 -- the counter that goes on, or 10
 abbrev pub next_counter : ℕ → Result ℕ ℕ

@@ -4,7 +4,7 @@
 pub mod code;
 pub mod examples;
 pub mod lead;
-pub mod mark;
 pub mod order;
 pub mod rules;
 pub mod stamp;
+pub mod stamped;

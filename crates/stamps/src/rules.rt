@@ -3,18 +3,18 @@ ghost use Rattle.std.specs.Prelude.{◌≡◌};
 ghost use Rattle.clocks.specs.Reading.{millis_of};
 ghost use Rattle.refusals.specs.Refusals.{result_map, shown};
 ghost use Rattle.stamps.specs.Lead.{lead_of};
-ghost use Rattle.stamps.specs.Rules.{lead_receipt_mark, mark_numbers, next_counter, own_mark, receipt_mark};
+ghost use Rattle.stamps.specs.Rules.{lead_receipt_answer, stamped_numbers, next_counter, own_answer, receipt_answer};
 ghost use Rattle.stamps.specs.Stamp.{stamp_of};
 
 use crate::lead::Lead;
-use crate::mark::Mark;
 use crate::stamp::Stamp;
+use crate::stamped::Stamped;
 use clocks::reading::Reading;
 use refusals::refusal::Refusal;
 
 // A note, send or put of a node whose last stamp is `last`.
-pub fn stamp_own(last: Stamp, reading: Reading) -> Result<Mark, Refusal>
-    ensures { shown (result_map mark_numbers result) ≡ own_mark (stamp_of last) (millis_of reading) }
+pub fn stamp_own(last: Stamp, reading: Reading) -> Result<Stamped, Refusal>
+    ensures { shown (result_map stamped_numbers result) ≡ own_answer (stamp_of last) (millis_of reading) }
 {
     let time = last.time.max(reading.millis());
     let counter = if time == last.time {
@@ -22,16 +22,16 @@ pub fn stamp_own(last: Stamp, reading: Reading) -> Result<Mark, Refusal>
     } else {
         0
     };
-    Ok(Mark {
+    Ok(Stamped {
         stamp: Stamp { time, counter },
         drift: time - reading.millis(),
     })
 }
 
 // The receipt of a message with the stamp `sent`.
-pub fn stamp_receipt(last: Stamp, sent: Stamp, reading: Reading) -> Result<Mark, Refusal>
-    ensures { shown (result_map mark_numbers result)
-        ≡ receipt_mark (stamp_of last) (stamp_of sent) (millis_of reading) }
+pub fn stamp_receipt(last: Stamp, sent: Stamp, reading: Reading) -> Result<Stamped, Refusal>
+    ensures { shown (result_map stamped_numbers result)
+        ≡ receipt_answer (stamp_of last) (stamp_of sent) (millis_of reading) }
 {
     let time = last.time.max(sent.time).max(reading.millis());
     let counter = match (time == last.time, time == sent.time) {
@@ -40,7 +40,7 @@ pub fn stamp_receipt(last: Stamp, sent: Stamp, reading: Reading) -> Result<Mark,
         (false, true) => count_on(sent.counter)?,
         (false, false) => 0,
     };
-    Ok(Mark {
+    Ok(Stamped {
         stamp: Stamp { time, counter },
         drift: time - reading.millis(),
     })
@@ -54,9 +54,9 @@ fn count_on(counter: u16) -> Result<u16, Refusal>
 }
 
 // The receipt of a message that may be ahead of the reading by the lead: refused with 15 beyond it, then with 10.
-pub fn receive(lead: Lead, last: Stamp, sent: Stamp, reading: Reading) -> Result<Mark, Refusal>
-    ensures { shown (result_map mark_numbers result)
-        ≡ lead_receipt_mark (lead_of lead) (stamp_of last) (stamp_of sent) (millis_of reading) }
+pub fn receive(lead: Lead, last: Stamp, sent: Stamp, reading: Reading) -> Result<Stamped, Refusal>
+    ensures { shown (result_map stamped_numbers result)
+        ≡ lead_receipt_answer (lead_of lead) (stamp_of last) (stamp_of sent) (millis_of reading) }
 {
     if lead.is_exceeded(sent, reading) {
         return Err(Refusal::MessageTooFarAhead);

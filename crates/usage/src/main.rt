@@ -5,7 +5,7 @@ ghost use Rattle.std.specs.Prelude.{◌≡◌};
 ghost use Rattle.clocks.specs.TraceClocks.{trace_answer};
 ghost use Rattle.refusals.specs.Refusals.{result_map, shown};
 ghost use Rattle.stamps.specs.Examples.{note_answer};
-ghost use Rattle.stamps.specs.Rules.{mark_numbers};
+ghost use Rattle.stamps.specs.Rules.{stamped_numbers};
 ghost use Rattle.stamps.specs.Stamp.{zero_stamp};
 
 use clocks::backstep::Backstep;
@@ -13,14 +13,14 @@ use clocks::bank::ClockBank;
 use clocks::reading::Raw;
 use clocks::trace_clocks::TraceClocks;
 use refusals::refusal::Refusal;
-use stamps::mark::Mark;
 use stamps::rules::stamp_own;
 use stamps::stamp::Stamp;
+use stamps::stamped::Stamped;
 use std::io;
 
 // The first note of node 0, whose clock may step back by 20 ms.
-fn first_note(raw: Raw) -> Result<Mark, Refusal>
-    ensures { shown (result_map mark_numbers result) ≡ note_answer zero_stamp (trace_answer 0 20 raw.0) }
+fn first_note(raw: Raw) -> Result<Stamped, Refusal>
+    ensures { shown (result_map stamped_numbers result) ≡ note_answer zero_stamp (trace_answer 0 20 raw.0) }
 {
     let clocks = TraceClocks::new(Backstep::new(20)?);
     let reading = clocks.look(0, raw)?;
@@ -29,11 +29,11 @@ fn first_note(raw: Raw) -> Result<Mark, Refusal>
 
 fn main(rt: HostRuntime) -> io::Result<()> {
     match first_note(Raw(1000)) {
-        Ok(mark) => println!(rt;
+        Ok(stamped) => println!(rt;
             "{}.{} drift {}",
-            mark.stamp.time(),
-            mark.stamp.counter(),
-            mark.drift
+            stamped.stamp.time(),
+            stamped.stamp.counter(),
+            stamped.drift
         ),
         Err(refusal) => println!(rt; "refused {}", refusal.number()),
     }

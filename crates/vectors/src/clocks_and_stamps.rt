@@ -11,9 +11,9 @@ use clocks::tick_counters::TickCounters;
 use clocks::trace_clocks::TraceClocks;
 use refusals::refusal::Refusal;
 use stamps::lead::Lead;
-use stamps::mark::Mark;
 use stamps::rules::{receive, stamp_own};
 use stamps::stamp::Stamp;
+use stamps::stamped::Stamped;
 use std::alloc::Global;
 use std::test::Fail;
 
@@ -25,9 +25,9 @@ fn millis(given: Result<Reading, Refusal>) -> Result<u64, u8> {
 }
 
 // Time, counter and drift, or the number of the refusal.
-fn mark_numbers(given: Result<Mark, Refusal>) -> Result<(u64, u16, u64), u8> {
+fn stamped_numbers(given: Result<Stamped, Refusal>) -> Result<(u64, u16, u64), u8> {
     given
-        .map(|mark| (mark.stamp.time(), mark.stamp.counter(), mark.drift))
+        .map(|stamped| (stamped.stamp.time(), stamped.stamp.counter(), stamped.drift))
         .map_err(|refusal| refusal.number())
 }
 
@@ -158,16 +158,16 @@ fn drift_of_a_message(rt: HostRuntime) -> Result<(), Fail> {
     let reading = clocks.take(0, Raw(1000))?;
     let sent = stamp_at(1501 * 65_536);
     assert_eq!(rt;
-        mark_numbers(receive(Lead::new(500)?, Stamp::zero(), sent, reading)),
+        stamped_numbers(receive(Lead::new(500)?, Stamp::zero(), sent, reading)),
         Err(15)
     );
     let sent = stamp_at(1500 * 65_536);
     let received = receive(Lead::new(500)?, Stamp::zero(), sent, reading)?;
-    assert_eq!(rt; mark_numbers(Ok(received)), Ok((1500, 1, 500)));
+    assert_eq!(rt; stamped_numbers(Ok(received)), Ok((1500, 1, 500)));
     assert_eq!(rt; millis(clocks.look(0, Raw(979))), Err(9));
     let reading = clocks.take(0, Raw(980))?;
     assert_eq!(rt;
-        mark_numbers(stamp_own(received.stamp, reading)),
+        stamped_numbers(stamp_own(received.stamp, reading)),
         Ok((1500, 2, 520))
     );
     Ok(())
@@ -178,11 +178,11 @@ fn counter_spent(rt: HostRuntime) -> Result<(), Fail> {
     let mut clocks = TraceClocks::new(Backstep::new(0)?);
     let last = stamp_at(1000 * 65_536 + 65_535);
     assert_eq!(rt;
-        mark_numbers(stamp_own(last, clocks.take(0, Raw(1000))?)),
+        stamped_numbers(stamp_own(last, clocks.take(0, Raw(1000))?)),
         Err(10)
     );
     assert_eq!(rt;
-        mark_numbers(stamp_own(last, clocks.take(0, Raw(1001))?)),
+        stamped_numbers(stamp_own(last, clocks.take(0, Raw(1001))?)),
         Ok((1001, 0, 0))
     );
     Ok(())

@@ -3,7 +3,7 @@ use crate::stamp::Stamp;
 
 // The event's stamp, and its drift: how far the stamp's time is above the clock's reading.
 #[derive(Clone, Copy, PartialEq, Eq, Debug)]
-pub struct Mark {
+pub struct Stamped {
     pub stamp: Stamp,
     pub drift: u64,
 }

@@ -13,20 +13,20 @@ use Rattle.clocks.specs.declared.sample.Sample.{Sample}
 abbrev pub take_of : Sample → Result Reading Refusal → Take
 take_of s a = record { node = s.node; raw = s.raw.0; answer = shown (result_map millis_of a) }
 
-pub takes_of-more : (samples : List Sample) (answers : List (Result Reading Refusal)) (s : Sample) (a : Result Reading Refusal)
+pub takes_of_more : (samples : List Sample) (answers : List (Result Reading Refusal)) (s : Sample) (a : Result Reading Refusal)
     → length answers ≡ length samples → takes_of (samples ++ s ∷ []) (answers ++ a ∷ []) ≡ takes_of samples answers ++ take_of s a ∷ []
-takes_of-more [] [] s a same = refl
-takes_of-more [] (b ∷ answers) s a same = absurd (omega arith)
-takes_of-more (x ∷ samples) [] s a same = absurd (omega arith)
-takes_of-more (x ∷ samples) (b ∷ answers) s a same =
-    ap (λ z. take_of x b ∷ z) (takes_of-more samples answers s a (omega arith))
+takes_of_more [] [] s a same = refl
+takes_of_more [] (b ∷ answers) s a same = absurd (omega arith)
+takes_of_more (x ∷ samples) [] s a same = absurd (omega arith)
+takes_of_more (x ∷ samples) (b ∷ answers) s a same =
+    ap (λ z. take_of x b ∷ z) (takes_of_more samples answers s a (omega arith))
 
 -- one take more at the end
-pub Run-more : (takes : List Take) (old new next : Meaning) (t : Take) → Run old takes new → Step new t next → IsLawful next → Run old (takes ++ t ∷ []) next
-Run-more [] old new next t run step law = (run.0, (next, subst (λ m. Step m t next) run.1 step, (law, refl)))
-Run-more (x ∷ takes) old new next t run step law =
+pub run_more : (takes : List Take) (old new next : Meaning) (t : Take) → Run old takes new → Step new t next → IsLawful next → Run old (takes ++ t ∷ []) next
+run_more [] old new next t run step law = (run.0, (next, subst (λ m. Step m t next) run.1 step, (law, refl)))
+run_more (x ∷ takes) old new next t run step law =
     let first = run.1 in
-    (run.0, (first.0, first.1, Run-more takes first.0 new next t first.2 step law))
+    (run.0, (first.0, first.1, run_more takes first.0 new next t first.2 step law))
 
 -- a take lowers no high and changes no backstep
 record OnlyRises (old new : Meaning) (k : ℕ) : Type 0 where
@@ -61,19 +61,19 @@ keeps_high (t ∷ takes) old new (suc j) r run answer =
     let rises = taken_rises t.answer old first.0 t.node (take_at takes j).node first.1.change in
     omega (arith, rises.high, rises.backstep)
 
-pub Run-keeps_backsteps : (takes : List Take) (old new : Meaning) → Run old takes new → KeepsBacksteps (λ node. (old node).backstep) takes
-Run-keeps_backsteps [] old new run i j p q lt same e f = let z : ◌≡◌ {A = ℕ} 0 1 = cc in absurd (omega arith)
-Run-keeps_backsteps (t ∷ takes) old new run zero zero p q lt same e f = absurd (omega arith)
-Run-keeps_backsteps (t ∷ takes) old new run (suc i) zero p q lt same e f = absurd (omega arith)
-Run-keeps_backsteps (t ∷ takes) old new run zero (suc j) p q lt same e f =
+pub run_keeps_backsteps : (takes : List Take) (old new : Meaning) → Run old takes new → KeepsBacksteps (λ node. (old node).backstep) takes
+run_keeps_backsteps [] old new run i j p q lt same e f = let z : ◌≡◌ {A = ℕ} 0 1 = cc in absurd (omega arith)
+run_keeps_backsteps (t ∷ takes) old new run zero zero p q lt same e f = absurd (omega arith)
+run_keeps_backsteps (t ∷ takes) old new run (suc i) zero p q lt same e f = absurd (omega arith)
+run_keeps_backsteps (t ∷ takes) old new run zero (suc j) p q lt same e f =
     let first = run.1 in
     let later = keeps_high takes first.0 new j q first.2 f in
     let rises = taken_rises t.answer old first.0 t.node (take_at takes j).node first.1.change in
     let taken : Taken (Ok p) t.node old first.0 = rw e at first.1.change in
     let high : (first.0 (take_at takes j).node).high ≡ max (old (take_at takes j).node).high p = rw same at taken.0.high in
     omega (arith, rises.backstep)
-Run-keeps_backsteps (t ∷ takes) old new run (suc i) (suc j) p q lt same e f =
+run_keeps_backsteps (t ∷ takes) old new run (suc i) (suc j) p q lt same e f =
     let first = run.1 in
     let rises = taken_rises t.answer old first.0 t.node (take_at takes j).node first.1.change in
-    let rest = Run-keeps_backsteps takes first.0 new first.2 i j p q (omega arith) same e f in
+    let rest = run_keeps_backsteps takes first.0 new first.2 i j p q (omega arith) same e f in
     omega (arith, rises.backstep)

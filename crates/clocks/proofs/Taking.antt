@@ -6,7 +6,7 @@ use Rattle.clocks.specs.Bank.{Meaning, IsLawful}
 use Rattle.clocks.specs.Runs.{Step, Run, TookAll, takes_of}
 use Rattle.clocks.specs.declared.reading.Reading.{Reading}
 use Rattle.clocks.specs.declared.sample.Sample.{Sample}
-use Rattle.clocks.proofs.RunLemmas.{take_of, takes_of-more, Run-more, Run-keeps_backsteps}
+use Rattle.clocks.proofs.RunLemmas.{take_of, takes_of_more, run_more, run_keeps_backsteps}
 
 -- the list was `before` and is `now`, and the bank meant `old` and means `new`, after the first i samples
 pub record Taking (old new : Meaning) (samples : List Sample) (i : ℕ) (before now : List (Result Reading Refusal)) : Type 0 where
@@ -27,8 +27,8 @@ goes_on old new next samples i d before now after a low so_far step law gains =
     let gained : List (Result Reading Refusal) = so_far.gained in
     let len : length (take i samples) ≡ i = length-take-le i samples (omega arith) in
     let more : takes_of (take (i + 1) samples) (gained ++ a ∷ []) ≡ takes_of (take i samples) gained ++ take_of s a ∷ [] =
-    ap (λ z. takes_of z (gained ++ a ∷ [])) (take_more samples i d low) ∙ takes_of-more (take i samples) gained s a (so_far.each ∙ sym len) in
-    let run = Run-more (takes_of (take i samples) gained) old new next (take_of s a) so_far.run step law in
+    ap (λ z. takes_of z (gained ++ a ∷ [])) (take_more samples i d low) ∙ takes_of_more (take i samples) gained s a (so_far.each ∙ sym len) in
+    let run = run_more (takes_of (take i samples) gained) old new next (take_of s a) so_far.run step law in
     record {
       gained = gained ++ a ∷ [];
       list = gains ∙ (ap (λ z. z ++ a ∷ []) so_far.list ∙ append_assoc before gained (a ∷ []));
@@ -46,5 +46,5 @@ took old new samples i start before now same all last so_far =
       list = so_far.list ∙ ap (λ z. z ++ so_far.gained) same;
       each = omega (arith, so_far.each);
       run = run;
-      law = Run-keeps_backsteps (takes_of samples so_far.gained) old new run;
+      law = run_keeps_backsteps (takes_of samples so_far.gained) old new run;
     }

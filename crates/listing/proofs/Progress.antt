@@ -5,7 +5,7 @@ use Rattle.trace.specs.Format.{finding_at}
 use Rattle.trace.specs.Readers.{reader_trace, reader_offset}
 use Rattle.trace.specs.declared.reader.Reader.{Reader}
 use Rattle.trace.specs.Whole.{Whole, whole_of}
-use Rattle.trace.proofs.Whole.{rest, rest-record}
+use Rattle.trace.proofs.Whole.{rest, rest_record}
 use Rattle.listing.proofs.Adding.{Grows}
 use Rattle.listing.specs.Text.{record_line, record_lines, ending_lines, body_text}
 
@@ -27,19 +27,19 @@ pub record Listing {Z : Type 0} (was text : String Z) (bs : List ℕ) (reader : 
 
 module _ (bs : List ℕ) (at n i : ℕ) (m : Content) (h : at ≤ length bs) (e : finding_at bs at ≡ Ok (Some (i, m))) where
   -- the line of the next record, and those behind it
-  next-line : tail bs at n ≡ record_line (n + 1) m ++ tail bs (at + size_of m) (n + 1)
-  next-line =
+  next_line : tail bs at n ≡ record_line (n + 1) m ++ tail bs (at + size_of m) (n + 1)
+  next_line =
       let later = rest bs (at + size_of m) in
-      ap (λ (w : Whole). record_lines (n + 1) w.records ++ ending_lines w.ending) (rest-record bs at i m h e)
+      ap (λ (w : Whole). record_lines (n + 1) w.records ++ ending_lines w.ending) (rest_record bs at i m h e)
       ∙ append_assoc (record_line (n + 1) m) (record_lines (n + 1 + 1) later.records) (ending_lines later.ending)
 
   pub goes : (start text after : List ℕ) → HasListed start text bs at n → after ++ tail bs (at + size_of m) (n + 1) ≡ start ++ body_text (whole_of bs) → HasListed start after bs (at + size_of m) (n + 1)
   goes start text after g a = record {
     lines = a;
-    count = let c = ap (λ (w : Whole). length w.records) (rest-record bs at i m h e) in omega (arith, g.count);
+    count = let c = ap (λ (w : Whole). length w.records) (rest_record bs at i m h e) in omega (arith, g.count);
     seen = omega (arith, g.seen);
   }
 
   -- the text on the way, with that line next
-  pub next-text : (text all : List ℕ) → text ++ tail bs at n ≡ all → text ++ (record_line (n + 1) m ++ tail bs (at + size_of m) (n + 1)) ≡ all
-  next-text text all s = ap (λ (t : List ℕ). text ++ t) (sym next-line) ∙ s
+  pub next_text : (text all : List ℕ) → text ++ tail bs at n ≡ all → text ++ (record_line (n + 1) m ++ tail bs (at + size_of m) (n + 1)) ≡ all
+  next_text text all s = ap (λ (t : List ℕ). text ++ t) (sym next_line) ∙ s

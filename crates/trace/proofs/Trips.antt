@@ -11,107 +11,107 @@ use Rattle.trace.specs.Contents.{Content, set_up, note, send, receipt, loss, put
 use Rattle.trace.specs.Ranges.{IsInRange}
 use Rattle.trace.specs.Format.{part, content_from, finding_at}
 use Rattle.trace.specs.Writing.{overlay, is_within, write_answer, buffer_after_write, read_back_answer}
-use Rattle.trace.proofs.Numbers.{unsigned_bytes, signed-bytes}
-use Rattle.trace.proofs.Parsing.{parse-found}
+use Rattle.trace.proofs.Numbers.{unsigned_bytes, signed_bytes}
+use Rattle.trace.proofs.Parsing.{parse_found}
 use Rattle.trace.proofs.Reading.{ap2}
 
 -- a key of n bytes, and what follows it
-key-part : (n : ℕ) (t u post : List ℕ) → length t ≡ n → take n ((t ++ u) ++ post) ≡ t
-key-part n t u post l = ap (take n) (append_assoc t u post) ∙ take_at t (u ++ post) n l
+key_part : (n : ℕ) (t u post : List ℕ) → length t ≡ n → take n ((t ++ u) ++ post) ≡ t
+key_part n t u post l = ap (take n) (append_assoc t u post) ∙ take_at t (u ++ post) n l
 
-key-rest : (n : ℕ) (t u post : List ℕ) → length t ≡ n → drop n ((t ++ u) ++ post) ≡ u ++ post
-key-rest n t u post l = ap (drop n) (append_assoc t u post) ∙ drop_at t (u ++ post) n l
+key_rest : (n : ℕ) (t u post : List ℕ) → length t ≡ n → drop n ((t ++ u) ++ post) ≡ u ++ post
+key_rest n t u post l = ap (drop n) (append_assoc t u post) ∙ drop_at t (u ++ post) n l
 
 -- the body of a record, whatever follows it, is decoded to that record
-decode-body : (m : Content) (post : List ℕ) → IsInRange m → content_from (kind_of m) (body_of m ++ post) ≡ m
-decode-body (set_up n k l b) post s =
+decode_body : (m : Content) (post : List ℕ) → IsInRange m → content_from (kind_of m) (body_of m ++ post) ≡ m
+decode_body (set_up n k l b) post s =
     let bs = body_of (set_up n k l b) ++ post in
     let e0 : unsigned_at 1 0 bs ≡ n = omega arith in
     let e1 : unsigned_at 1 1 bs ≡ k = omega arith in
     ap2 (λ (x : ℕ) (y : ℕ). set_up x y (unsigned_at 4 2 bs) (unsigned_at 4 6 bs)) e0 e1
     ∙ ap2 (set_up n k) (unsigned_bytes 4 l 2 bs s.2 (omega arith) refl) (unsigned_bytes 4 b 6 bs s.3 (omega arith) refl)
-decode-body (note n raw) post s =
+decode_body (note n raw) post s =
     let bs = body_of (note n raw) ++ post in
     let e0 : unsigned_at 1 0 bs ≡ n = omega arith in
     ap2 note e0 (unsigned_bytes 8 raw 1 bs s.1 (omega arith) refl)
-decode-body (send n raw to m) post s =
+decode_body (send n raw to m) post s =
     let bs = body_of (send n raw to m) ++ post in
     let e0 : unsigned_at 1 0 bs ≡ n = omega arith in
     let e2 : unsigned_at 1 9 bs ≡ to = omega arith in
     ap2 (λ (x : ℕ) (y : ℕ). send x y (unsigned_at 1 9 bs) (unsigned_at 4 10 bs)) e0 (unsigned_bytes 8 raw 1 bs s.1 (omega arith) refl)
     ∙ ap2 (send n raw) e2 (unsigned_bytes 4 m 10 bs s.3 (omega arith) refl)
-decode-body (receipt n raw m) post s =
+decode_body (receipt n raw m) post s =
     let bs = body_of (receipt n raw m) ++ post in
     let e0 : unsigned_at 1 0 bs ≡ n = omega arith in
     ap2 (λ (x : ℕ) (y : ℕ). receipt x y (unsigned_at 4 9 bs)) e0 (unsigned_bytes 8 raw 1 bs s.1 (omega arith) refl)
     ∙ ap (receipt n raw) (unsigned_bytes 4 m 9 bs s.2 (omega arith) refl)
-decode-body (loss m) post s = ap loss (unsigned_bytes 4 m 0 (body_of (loss m) ++ post) s (omega arith) refl)
-decode-body (put_point n raw t v) post s =
+decode_body (loss m) post s = ap loss (unsigned_bytes 4 m 0 (body_of (loss m) ++ post) s (omega arith) refl)
+decode_body (put_point n raw t v) post s =
     let bs = body_of (put_point n raw t v) ++ post in
     let lb : 13 + 4 ≤ length bs = omega (arith, length-append (t ++ signed_bytes_of v) post, length-append t (signed_bytes_of v), s.2) in
     let e0 : unsigned_at 1 0 bs ≡ n = omega arith in
     ap2 (λ (x : ℕ) (y : ℕ). put_point x y (part 4 9 bs) (signed_at 13 bs)) e0 (unsigned_bytes 8 raw 1 bs s.1 (omega arith) refl)
-    ∙ ap2 (put_point n raw) (key-part 4 t (signed_bytes_of v) post s.2) (signed-bytes v 13 bs s.3 lb (ap (take 4) (key-rest 4 t (signed_bytes_of v) post s.2)))
-decode-body (put_tag n raw t v) post s =
+    ∙ ap2 (put_point n raw) (key_part 4 t (signed_bytes_of v) post s.2) (signed_bytes v 13 bs s.3 lb (ap (take 4) (key_rest 4 t (signed_bytes_of v) post s.2)))
+decode_body (put_tag n raw t v) post s =
     let bs = body_of (put_tag n raw t v) ++ post in
     let lb : 25 + 4 ≤ length bs = omega (arith, length-append (t ++ signed_bytes_of v) post, length-append t (signed_bytes_of v), s.2) in
     let e0 : unsigned_at 1 0 bs ≡ n = omega arith in
     ap2 (λ (x : ℕ) (y : ℕ). put_tag x y (part 16 9 bs) (signed_at 25 bs)) e0 (unsigned_bytes 8 raw 1 bs s.1 (omega arith) refl)
-    ∙ ap2 (put_tag n raw) (key-part 16 t (signed_bytes_of v) post s.2) (signed-bytes v 25 bs s.3 lb (ap (take 4) (key-rest 16 t (signed_bytes_of v) post s.2)))
-decode-body (read_point at t) post s =
+    ∙ ap2 (put_tag n raw) (key_part 16 t (signed_bytes_of v) post s.2) (signed_bytes v 25 bs s.3 lb (ap (take 4) (key_rest 16 t (signed_bytes_of v) post s.2)))
+decode_body (read_point at t) post s =
     let bs = body_of (read_point at t) ++ post in
     ap2 read_point (unsigned_bytes 8 at 0 bs s.0 (omega arith) refl) (take_at t post 4 s.1)
-decode-body (read_tag at t) post s =
+decode_body (read_tag at t) post s =
     let bs = body_of (read_tag at t) ++ post in
     ap2 read_tag (unsigned_bytes 8 at 0 bs s.0 (omega arith) refl) (take_at t post 16 s.1)
 
-pub length-body : (m : Content) → IsInRange m → length (body_of m) ≡ body_len_of (kind_of m)
-length-body (set_up n k l b) s = refl
-length-body (note n raw) s = refl
-length-body (send n raw to m) s = refl
-length-body (receipt n raw m) s = refl
-length-body (loss m) s = refl
-length-body (put_point n raw t v) s = omega (arith, length-append t (signed_bytes_of v), s.2)
-length-body (put_tag n raw t v) s = omega (arith, length-append t (signed_bytes_of v), s.2)
-length-body (read_point at t) s = omega (arith, s.1)
-length-body (read_tag at t) s = omega (arith, s.1)
+pub length_body : (m : Content) → IsInRange m → length (body_of m) ≡ body_len_of (kind_of m)
+length_body (set_up n k l b) s = refl
+length_body (note n raw) s = refl
+length_body (send n raw to m) s = refl
+length_body (receipt n raw m) s = refl
+length_body (loss m) s = refl
+length_body (put_point n raw t v) s = omega (arith, length-append t (signed_bytes_of v), s.2)
+length_body (put_tag n raw t v) s = omega (arith, length-append t (signed_bytes_of v), s.2)
+length_body (read_point at t) s = omega (arith, s.1)
+length_body (read_tag at t) s = omega (arith, s.1)
 
 -- each kind's byte stands for it
-kind-of-byte : (k : Kind) → kind_at (byte_of k) ≡ Some k
-kind-of-byte SetUp = refl
-kind-of-byte Note = refl
-kind-of-byte Send = refl
-kind-of-byte Receipt = refl
-kind-of-byte Loss = refl
-kind-of-byte PutPoint = refl
-kind-of-byte PutTag = refl
-kind-of-byte ReadPoint = refl
-kind-of-byte ReadTag = refl
+kind_of_byte : (k : Kind) → kind_at (byte_of k) ≡ Some k
+kind_of_byte SetUp = refl
+kind_of_byte Note = refl
+kind_of_byte Send = refl
+kind_of_byte Receipt = refl
+kind_of_byte Loss = refl
+kind_of_byte PutPoint = refl
+kind_of_byte PutTag = refl
+kind_of_byte ReadPoint = refl
+kind_of_byte ReadTag = refl
 
 -- what stands behind `pre`
-parse-behind : (pre body : List ℕ) (k : Kind) → body_len_of k ≤ length body → finding_at (pre ++ (byte_of k ∷ body)) (length pre) ≡ Ok (Some (length pre, content_from k body))
-parse-behind pre body k l =
+parse_behind : (pre body : List ℕ) (k : Kind) → body_len_of k ≤ length body → finding_at (pre ++ (byte_of k ∷ body)) (length pre) ≡ Ok (Some (length pre, content_from k body))
+parse_behind pre body k l =
     let bs = pre ++ (byte_of k ∷ body) in
     let at = length pre in
     let eb : get_or bs at 0 ≡ byte_of k = ap (λ (n : ℕ). get_or bs n 0) (sym (add-zero at)) ∙ get_or-append-add pre (byte_of k ∷ body) 0 0 in
     let ed : drop (at + 1) bs ≡ body = drop-append-add pre (byte_of k ∷ body) 1 in
     let lt : at < length bs = omega (arith, length-append pre (byte_of k ∷ body)) in
     let lb : body_len_of k ≤ length (drop (at + 1) bs) = omega (arith, ap length ed) in
-    parse-found bs at k lt (ap kind_at eb ∙ kind-of-byte k) lb ∙ ap (λ (b : List ℕ). Ok (Some (at, content_from k b))) ed
+    parse_found bs at k lt (ap kind_at eb ∙ kind_of_byte k) lb ∙ ap (λ (b : List ℕ). Ok (Some (at, content_from k b))) ed
 
-pub read-written : (m : Content) (pre post : List ℕ) → IsInRange m → finding_at (pre ++ (encoding_of m ++ post)) (length pre) ≡ Ok (Some (length pre, m))
-read-written m pre post s =
-    parse-behind pre (body_of m ++ post) (kind_of m) (omega (arith, length-append (body_of m) post, length-body m s))
-    ∙ ap (λ (x : Content). Ok (Some (length pre, x))) (decode-body m post s)
+pub read_written : (m : Content) (pre post : List ℕ) → IsInRange m → finding_at (pre ++ (encoding_of m ++ post)) (length pre) ≡ Ok (Some (length pre, m))
+read_written m pre post s =
+    parse_behind pre (body_of m ++ post) (kind_of m) (omega (arith, length-append (body_of m) post, length_body m s))
+    ∙ ap (λ (x : Content). Ok (Some (length pre, x))) (decode_body m post s)
 
 -- a record that was written over a buffer stands there
-pub read-over : (m : Content) (place : ℕ) (buffer : List ℕ) → IsInRange m → place ≤ length buffer → finding_at (overlay place (encoding_of m) buffer) place ≡ Ok (Some (place, m))
+pub read_over : (m : Content) (place : ℕ) (buffer : List ℕ) → IsInRange m → place ≤ length buffer → finding_at (overlay place (encoding_of m) buffer) place ≡ Ok (Some (place, m))
 unfolding overlay
-read-over m place buffer s h =
+read_over m place buffer s h =
     let pre = take place buffer in
     let l : length pre ≡ place = length-take-le place buffer h in
     let bs = overlay place (encoding_of m) buffer in
-    subst (λ (n : ℕ). finding_at bs n ≡ Ok (Some (n, m))) l (read-written m pre (drop (place + length (encoding_of m)) buffer) s)
+    subst (λ (n : ℕ). finding_at bs n ≡ Ok (Some (n, m))) l (read_written m pre (drop (place + length (encoding_of m)) buffer) s)
 
 -- a record that the writer took is read back
 pub read_back : (m : Content) (place n : ℕ) (was after : List ℕ) → ◌≡◌ {A = Result ℕ ℕ} (Ok n) (write_answer m place was) → after ≡ buffer_after_write m place was → IsInRange m
@@ -122,7 +122,7 @@ read_back m place n was after e w s = go (is_within place (size_of m) was) refl
     go true q =
         let h : place ≤ length was = omega (arith, leb-true (place + size_of m) (length was) q) in
         let a : after ≡ overlay place (encoding_of m) was = w ∙ ap (λ (b : Bool). cond b (overlay place (encoding_of m) was) was) q in
-        (ap (λ (bs : List ℕ). finding_at bs place) a ∙ read-over m place was s h, ap (λ (b : Bool). cond b (Ok (place, m)) (Err 19)) q)
+        (ap (λ (bs : List ℕ). finding_at bs place) a ∙ read_over m place was s h, ap (λ (b : Bool). cond b (Ok (place, m)) (Err 19)) q)
     go false q =
         let f : ◌≡◌ {A = Result ℕ ℕ} (Ok n) (Err 19) = e ∙ ap (λ (b : Bool). cond b (Ok (place + size_of m)) (Err 19)) q in
         let z : ◌≡◌ {A = ℕ} 0 1 = cc in absurd (omega arith)

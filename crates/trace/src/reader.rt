@@ -58,7 +58,7 @@ fn key_at<'a, const N: usize>(body: &'a [u8], at: usize, start: usize) -> KeyFie
 }
 
 // The record of this kind with this body, which begins at `start` of its trace.
-fn decode<'a>(kind: Kind, body: &'a [u8], start: usize) -> Record<'a>
+fn decoded<'a>(kind: Kind, body: &'a [u8], start: usize) -> Record<'a>
     requires whole { body_len_of kind ≤ length body.now }
     requires places { start + length body.now < 2 ^ 64 }
     ensures content { content_of result ≡ content_from kind body.now }
@@ -125,7 +125,7 @@ pub fn entry_at<'a>(trace: &'a [u8], offset: usize) -> Result<Option<Entry<'a>>,
     if body.len() < kind.body_len() {
         return Err(Refusal::CutShort);
     }
-    let record = decode(kind, body, offset + 1);
+    let record = decoded(kind, body, offset + 1);
     Ok(Some(Entry { offset, record }))
 }
 

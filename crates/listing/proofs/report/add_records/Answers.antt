@@ -3,10 +3,10 @@ use Rattle.refusals.specs.Refusals.{number_of}
 use Rattle.trace.specs.Contents.{content_of, size_of}
 use Rattle.trace.specs.Format.{finding_at, place_behind, entry_of}
 use Rattle.trace.specs.Whole.{Whole, whole_of}
-use Rattle.trace.proofs.Whole.{rest-refused}
+use Rattle.trace.proofs.Whole.{rest_refused}
 use Rattle.listing.specs.Text.{record_line, record_lines, ending_lines, bad_line, body_text}
 use Rattle.listing.proofs.Adding.{stop, step, same_bytes}
-use Rattle.listing.proofs.Progress.{HasListed, tail, next-text, goes}
+use Rattle.listing.proofs.Progress.{HasListed, tail, next_text, goes}
 use Rattle.listing.proofs.report.add_records.Goals as goal
 
 pub loop-entry-preserved : goal.loop-entry-preserved
@@ -25,7 +25,7 @@ loop-entry-preserved c =
     let e : finding_at c.loop-entry.reader.trace.now at ≡ Ok (Some (entry_of entry)) = search (rules, found) in
     let e2 : finding_at bs at ≡ Ok (Some (entry_of entry)) = ap (λ (x : List ℕ). finding_at x at) (sym same) ∙ e in
     let h : at ≤ length bs = omega (arith, ap length same) in
-    let s = next-text bs at n entry.offset m h e2 (string_bytes mid) (string_bytes was ++ body_text (whole_of bs)) g.lines in
+    let s = next_text bs at n entry.offset m h e2 (string_bytes mid) (string_bytes was ++ body_text (whole_of bs)) g.lines in
     let w = step was mid after (body_text (whole_of bs)) (record_line (n + 1) m) (tail bs (at + size_of m) (n + 1)) s c.loop-entry.invariant.grown c.in_ok-add_record-in-Ok-Some.ensures in
     let q : c.next_entry.new.self.offset ≡ at + size_of m = found.offset ∙ ap (place_behind at) e in
     record {
@@ -49,7 +49,7 @@ returns-in_err-add_record-in-Ok-Some-clause-text c =
     let e : finding_at c.loop-entry.reader.trace.now at ≡ Ok (Some (entry_of entry)) = search (rules, found) in
     let e2 : finding_at bs at ≡ Ok (Some (entry_of entry)) = ap (λ (x : List ℕ). finding_at x at) (sym same) ∙ e in
     let h : at ≤ length bs = omega (arith, ap length same) in
-    let s = next-text bs at n entry.offset m h e2 (string_bytes mid) (string_bytes was ++ body_text (whole_of bs)) c.loop-entry.invariant.listed.lines in
+    let s = next_text bs at n entry.offset m h e2 (string_bytes mid) (string_bytes was ++ body_text (whole_of bs)) c.loop-entry.invariant.listed.lines in
     stop was mid c.add_record.new.text (body_text (whole_of bs)) (record_line (n + 1) m) (tail bs (at + size_of m) (n + 1)) c.from_residual.result s c.loop-entry.invariant.grown
     c.in_err-add_record-in-Ok-Some.ensures c.from_residual.ensures.0
 
@@ -65,7 +65,7 @@ returns-in_err-add_bad-in-Err-clause-text c =
     let e : finding_at c.loop-entry.reader.trace.now at ≡ Err k = sym found.answer in
     let e2 : finding_at bs at ≡ Err k = ap (λ (x : List ℕ). finding_at x at) (sym c.loop-entry.invariant.same) ∙ e in
     let q : c.offset.result ≡ at = c.offset.ensures ∙ found.offset ∙ ap (place_behind at) e in
-    let line : tail bs at c.loop-entry.accepted ≡ bad_line k at = ap (λ (w : Whole). record_lines (c.loop-entry.accepted + 1) w.records ++ ending_lines w.ending) (rest-refused bs at k e2) in
+    let line : tail bs at c.loop-entry.accepted ≡ bad_line k at = ap (λ (w : Whole). record_lines (c.loop-entry.accepted + 1) w.records ++ ending_lines w.ending) (rest_refused bs at k e2) in
     let s : string_bytes mid ++ (bad_line k at ++ []) ≡ string_bytes was ++ body_text (whole_of bs) =
     ap (λ (t : List ℕ). string_bytes mid ++ t) (append-nil (bad_line k at) ∙ sym line) ∙ c.loop-entry.invariant.listed.lines in
     stop was mid after (body_text (whole_of bs)) (bad_line k at) [] c.from_residual-in_err-add_bad-in-Err.result s c.loop-entry.invariant.grown

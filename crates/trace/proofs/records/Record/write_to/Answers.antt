@@ -3,7 +3,7 @@ use Rattle.std.proofs.lemmas.Bool.{le-leb}
 use Rattle.trace.specs.Kinds.{byte_of}
 use Rattle.trace.specs.Contents.{content_of, kind_of, body_of, size_of}
 use Rattle.trace.specs.Writing.{overlay}
-use Rattle.trace.proofs.Over.{overlay-overlay}
+use Rattle.trace.proofs.Over.{overlay_overlay}
 use Rattle.trace.proofs.Parsing.{cond_yes}
 use Rattle.trace.proofs.records.Record.write_to.Goals as goal
 
@@ -17,6 +17,6 @@ returns-clause-buffer c =
     let same : c.byte.result ≡ byte_of (kind_of m) = c.byte.ensures ∙ ap byte_of c.kind.ensures in
     c.put_body.ensures.after
     ∙ ap (overlay _ _) kind.after
-    ∙ overlay-overlay place _ was _ (body_of m) kind.place (omega arith)
+    ∙ overlay_overlay place _ was _ (body_of m) kind.place (omega arith)
     ∙ ap (λ (b : ℕ). overlay place (b ∷ body_of m) was) same
     ∙ sym (cond_yes _ _ _ (le-leb (place + size_of m) (length was) fits))

@@ -7,9 +7,10 @@ Run once, at the top of a checkout that the kit's script has brought over and th
 
 A name is changed in the module that declares it and where it is imported from that module, in
 specifications, proofs, clauses and ghost items. Functions of src/, strings, comments, inputs and
-outputs keep theirs. Names with a hyphen or a capital inside get an underscore. A name that is there
-no longer is passed over, so that a second run changes nothing. Two names of one module that would
-fall together stop the script before it writes.
+outputs keep theirs. (Paths and module lines of what moved are changed wherever they stand.) Names
+with a hyphen or a capital inside get an underscore. A name that is there no longer is passed over,
+so that a second run changes nothing. Two names of one module that would fall together stop the
+script before it changes a name.
 """
 
 import pathlib
@@ -189,6 +190,10 @@ def move():
         if (CRATES / old).exists() and not (CRATES / new).exists():
             (CRATES / new).parent.mkdir(parents=True, exist_ok=True)
             (CRATES / old).rename(CRATES / new)
+            for folder in (CRATES / old).parents:
+                if any(folder.iterdir()):
+                    break
+                folder.rmdir()
     listed = pathlib.Path("crates.txt")
     if not (CRATES / "stamps/src/lib.rt").exists():
         listed.write_text(re.sub(r"\bstamps\b", "refusals", listed.read_text()))

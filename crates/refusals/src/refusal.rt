@@ -2,28 +2,28 @@
 ghost use Rattle.std.specs.Prelude.{◌≡◌};
 ghost use Rattle.refusals.specs.Refusals.{number_of};
 
-// The refusals in the order of their numbers; the specification says what each means.
+// The refusals, each with the number that the listing prints; the specification says what each means.
 #[derive(Clone, Copy, PartialEq, Eq, Debug)]
 pub enum Refusal {
-    UnknownKind,
-    CutShort,
-    MalformedTag,
-    SettingOutOfRange,
-    MisplacedSetUp,
-    OtherKeyKind,
-    NoSuchNode,
-    ReadingOutOfRange,
-    ClockFellBack,
-    CounterSpent,
-    NumberUnderWay,
-    TooManyUnderWay,
-    NumberNotUnderWay,
-    OtherAddressee,
-    MessageTooFarAhead,
-    StoreFull,
-    VersionPresent,
-    NotSettled,
-    NoRoom,
+    UnknownKind = 1,
+    CutShort = 2,
+    MalformedTag = 3,
+    SettingOutOfRange = 4,
+    MisplacedSetUp = 5,
+    OtherKeyKind = 6,
+    NoSuchNode = 7,
+    ReadingOutOfRange = 8,
+    ClockFellBack = 9,
+    CounterSpent = 10,
+    NumberUnderWay = 11,
+    TooManyUnderWay = 12,
+    NumberNotUnderWay = 13,
+    OtherAddressee = 14,
+    MessageTooFarAhead = 15,
+    StoreFull = 16,
+    VersionPresent = 17,
+    NotSettled = 18,
+    NoRoom = 19,
 }
 
 impl Refusal {
@@ -31,26 +31,6 @@ impl Refusal {
     pub fn number(self) -> u8
         ensures { result ≡ number_of self }
     {
-        match self {
-            Refusal::UnknownKind => 1,
-            Refusal::CutShort => 2,
-            Refusal::MalformedTag => 3,
-            Refusal::SettingOutOfRange => 4,
-            Refusal::MisplacedSetUp => 5,
-            Refusal::OtherKeyKind => 6,
-            Refusal::NoSuchNode => 7,
-            Refusal::ReadingOutOfRange => 8,
-            Refusal::ClockFellBack => 9,
-            Refusal::CounterSpent => 10,
-            Refusal::NumberUnderWay => 11,
-            Refusal::TooManyUnderWay => 12,
-            Refusal::NumberNotUnderWay => 13,
-            Refusal::OtherAddressee => 14,
-            Refusal::MessageTooFarAhead => 15,
-            Refusal::StoreFull => 16,
-            Refusal::VersionPresent => 17,
-            Refusal::NotSettled => 18,
-            Refusal::NoRoom => 19,
-        }
+        self as u8
     }
 }

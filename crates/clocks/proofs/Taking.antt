@@ -1,5 +1,5 @@
 -- What is known between two takes of a sequence.
-use Rattle.std.proofs.Common.{◌≡◌, ℕ, ◌+◌, ◌<◌, ◌≤◌, List, [], ◌∷◌, ◌++◌, length, get_or, take, Result, sym, refl, ap, ◌∙◌, subst, append_assoc, append-nil, arith, length-append, take_all}
+use Rattle.std.proofs.Common.{◌≡◌, ℕ, ◌+◌, ◌<◌, ◌≤◌, List, [], ◌∷◌, ◌++◌, length, get_or, take, Result, sym, ap, ◌∙◌, subst, append_assoc, arith, length-append, take_all}
 use Rattle.std.proofs.lemmas.List.{take_more, length-take-le}
 use Rattle.refusals.specs.declared.refusal.Refusal.{Refusal}
 use Rattle.clocks.specs.Bank.{Meaning, IsLawful}
@@ -14,9 +14,6 @@ pub record Taking (old new : Meaning) (samples : List Sample) (i : ℕ) (before 
   pub list : now ≡ before ++ gained
   pub each : length gained ≡ i
   pub run : Run old (takes_of (take i samples) gained) new
-
-pub starts : (old : Meaning) (samples : List Sample) (before : List (Result Reading Refusal)) → IsLawful old → Taking old old samples 0 before before
-starts old samples before law = record { gained = []; list = sym (append-nil before); each = refl; run = (law, refl) }
 
 -- one sample more
 pub goes_on : (old new next : Meaning) (samples : List Sample) (i : ℕ) (d : Sample) (before now after : List (Result Reading Refusal)) (a : Result Reading Refusal)

@@ -1,6 +1,7 @@
 pub mod Limits
 pub mod Reading
 pub mod Settings
+pub mod Highs
 pub mod Bank
 pub mod TraceClocks
 pub mod TickCounters

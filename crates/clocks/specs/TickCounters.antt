@@ -1,5 +1,5 @@
 -- Tick counters: each node has a base and a step.
-use Rattle.std.specs.Prelude.{ℕ, ◌+◌, ◌*◌, if◌then◌else◌, List, Ok, Err, Result, nat_le, nat_lt, slice_index, slice_index_or}
+use Rattle.std.specs.Prelude.{ℕ, ◌+◌, ◌*◌, if◌then◌else◌, List, Ok, Err, Result, nat_le, nat_lt, slice_index_or}
 use Rattle.std.proofs.Common.{lit≤}
 use Rattle.clocks.specs.Limits.{is_reading}
 use Rattle.clocks.specs.Bank.{Clock, Meaning}
@@ -23,8 +23,8 @@ tick_clock tick high = record { high = high; backstep = 0; answer = tick_answer 
 abbrev pub absent_tick : Tick
 absent_tick = record { base = 0; step = 1; low = lit≤ tt; positive = lit≤ tt; short = lit≤ tt }
 
-abbrev pub tick_meaning : List Tick → List ℕ → Meaning
-tick_meaning ticks highs = λ node. tick_clock (slice_index_or ticks node absent_tick) (slice_index highs node)
+abbrev pub tick_meaning : List Tick → (ℕ → ℕ) → Meaning
+tick_meaning ticks highs = λ node. tick_clock (slice_index_or ticks node absent_tick) (highs node)
 
 -- nothing was taken yet
 abbrev pub fresh_ticks : List Tick → Meaning

@@ -1,5 +1,5 @@
 -- Trace clocks: the raw number is the reading.
-use Rattle.std.specs.Prelude.{ℕ, ◌+◌, if◌then◌else◌, List, Ok, Err, Result, nat_lt, slice_index}
+use Rattle.std.specs.Prelude.{ℕ, ◌+◌, if◌then◌else◌, Ok, Err, Result, nat_lt}
 use Rattle.clocks.specs.Limits.{is_reading}
 use Rattle.clocks.specs.Bank.{Clock, Meaning}
 
@@ -11,8 +11,8 @@ trace_answer high backstep raw =
 abbrev pub trace_clock : ℕ → ℕ → Clock
 trace_clock high backstep = record { high = high; backstep = backstep; answer = trace_answer high backstep }
 
-abbrev pub trace_meaning : List ℕ → ℕ → Meaning
-trace_meaning highs backstep = λ node. trace_clock (slice_index highs node) backstep
+abbrev pub trace_meaning : (ℕ → ℕ) → ℕ → Meaning
+trace_meaning highs backstep = λ node. trace_clock (highs node) backstep
 
 -- nothing was taken yet
 abbrev pub fresh_trace : ℕ → Meaning

@@ -3,6 +3,7 @@
 
 pub mod backstep;
 pub mod bank;
+mod highs;
 pub mod never_backwards;
 pub mod offset;
 pub mod offset_layer;

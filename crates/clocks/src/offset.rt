@@ -22,7 +22,7 @@ impl Offset {
     pub fn new(millis: i64) -> Result<Offset, Refusal>
         ensures { shown (result_map offset_of result) ≡ offset_setting millis }
     {
-        if millis < -Offset::MAX || millis > Offset::MAX {
+        if !(-Offset::MAX..=Offset::MAX).contains(&millis) {
             return Err(Refusal::SettingOutOfRange);
         }
         Ok(Offset { millis })

@@ -27,7 +27,7 @@ impl Reading {
     pub(crate) fn new(millis: u64) -> Result<Reading, Refusal>
         ensures { shown (result_map millis_of result) ≡ reading_of millis }
     {
-        if millis < 1 || millis > Reading::MAX {
+        if !(1..=Reading::MAX).contains(&millis) {
             return Err(Refusal::ReadingOutOfRange);
         }
         Ok(Reading { millis })

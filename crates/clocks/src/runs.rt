@@ -23,7 +23,7 @@ pub fn take_all<B: ClockBank>(
 {
     answers.reserve(samples.len())?;
     for sample in samples {
-        answers.push_reserved(bank.take(sample.node, sample.raw));
+        answers.push_reserved(bank.take(*sample));
     }
     Ok(())
 }

@@ -2,7 +2,7 @@
 use crate::reading::Raw;
 
 // A node, and the raw number that its own clock counted.
-#[derive(Clone, Copy, Debug)]
+#[derive(Clone, Copy, PartialEq, Eq, Debug)]
 pub struct Sample {
     pub node: u8,
     pub raw: Raw,

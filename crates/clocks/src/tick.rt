@@ -26,7 +26,7 @@ impl Tick {
     pub fn new(base: u64, step: u32) -> Result<Tick, Refusal>
         ensures { shown (result_map tick_of result) ≡ tick_setting base step }
     {
-        if base > Reading::MAX || step < 1 || step > Tick::MAX_STEP {
+        if base > Reading::MAX || !(1..=Tick::MAX_STEP).contains(&step) {
             return Err(Refusal::SettingOutOfRange);
         }
         Ok(Tick { base, step })

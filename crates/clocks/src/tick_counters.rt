@@ -1,21 +1,21 @@
 // Tick counters: each node has a base and a step.
 ghost use Rattle.std.specs.Prelude.{◌≡◌};
-ghost use Rattle.clocks.specs.Bank.{Taken, look_answer};
-ghost use Rattle.clocks.specs.Reading.{millis_of};
 ghost use Rattle.clocks.specs.TickCounters.{fresh_ticks, tick_meaning, ticks_of};
-ghost use Rattle.refusals.specs.Refusals.{result_map, shown};
+ghost use Rattle.clocks.specs.Highs.{highs_of};
 ghost use Rattle.std.proofs.Common.{rules};
 
 use crate::bank::{ClockBank, NODES};
-use crate::reading::{Raw, Reading};
+use crate::highs::Highs;
+use crate::reading::Reading;
+use crate::sample::Sample;
 use crate::tick::Tick;
 use refusals::refusal::Refusal;
 
-// The settings of the nodes, and their highs.
+// The settings of the nodes, which stay, and their highs, in the type that three banks share.
 #[derive(Drop)]
 pub struct TickCounters {
     ticks: [Tick; NODES],
-    highs: [u64; NODES],
+    highs: Highs,
 }
 
 impl TickCounters {
@@ -25,41 +25,32 @@ impl TickCounters {
     {
         TickCounters {
             ticks,
-            highs: [0; NODES],
+            highs: Highs::new(),
         }
     }
 }
 
 impl ClockBank for TickCounters {
-    ghost meaning = { λ s. tick_meaning s.ticks s.highs };
+    ghost meaning = { λ s. tick_meaning s.ticks (highs_of s.highs) };
+
+    // The settings stay.
+    ghost also = { λ _ _ old new. ticks_of new ≡ ticks_of old };
 
     ghost lawful = { Prim.search rules };
 
-    fn look(&self, node: u8, raw: Raw) -> Result<Reading, Refusal> {
-        if usize::from(node) >= NODES {
-            return Err(Refusal::NoSuchNode);
-        }
-        let Ok(count) = u32::try_from(raw.0) else {
-            return Err(Refusal::ReadingOutOfRange);
-        };
-        let tick = self.ticks[usize::from(node)];
-        let reading = Reading::new(tick.millis_at(count))?;
-        if reading.millis() < self.highs[usize::from(node)] {
+    fn look(&self, sample: Sample) -> Result<Reading, Refusal> {
+        let high = self.highs.of(sample.node)?;
+        let count = u32::try_from(sample.raw.0).map_err(|_| Refusal::ReadingOutOfRange)?;
+        let reading = Reading::new(self.ticks[usize::from(sample.node)].millis_at(count))?;
+        if high.is_some_and(|high| reading < high) {
             return Err(Refusal::ClockFellBack);
         }
         Ok(reading)
     }
 
-    // The settings stay.
-    fn take(&mut self, node: u8, raw: Raw) -> Result<Reading, Refusal>
-        ensures answer { let old = ⟦<TickCounters as ClockBank>⟧.meaning self.old in
-            shown (result_map millis_of result) ≡ look_answer old node raw.0 }
-        ensures change { let meaning = ⟦<TickCounters as ClockBank>⟧.meaning in
-            Taken (shown (result_map millis_of result)) node (meaning self.old) (meaning self.new) }
-        ensures settings { ticks_of self.new ≡ ticks_of self.old }
-    {
-        let reading = self.look(node, raw)?;
-        self.highs[usize::from(node)] = reading.millis();
+    fn take(&mut self, sample: Sample) -> Result<Reading, Refusal> {
+        let reading = self.look(sample)?;
+        self.highs.raise(sample.node, reading);
         Ok(reading)
     }
 }

@@ -2,17 +2,20 @@
 ghost use Rattle.std.specs.Prelude.{◌≡◌};
 ghost use Rattle.clocks.specs.Settings.{backstep_of};
 ghost use Rattle.clocks.specs.TraceClocks.{fresh_trace, trace_meaning};
+ghost use Rattle.clocks.specs.Highs.{highs_of};
 ghost use Rattle.std.proofs.Common.{rules};
 
 use crate::backstep::Backstep;
-use crate::bank::{ClockBank, NODES};
-use crate::reading::{Raw, Reading};
+use crate::bank::ClockBank;
+use crate::highs::Highs;
+use crate::reading::Reading;
+use crate::sample::Sample;
 use refusals::refusal::Refusal;
 
 // The highs of the nodes, and the backstep of each.
 #[derive(Drop)]
 pub struct TraceClocks {
-    highs: [u64; NODES],
+    highs: Highs,
     backstep: Backstep,
 }
 
@@ -22,32 +25,30 @@ impl TraceClocks {
         ensures { ⟦<TraceClocks as ClockBank>⟧.meaning result ≡ fresh_trace (backstep_of backstep) }
     {
         TraceClocks {
-            highs: [0; NODES],
+            highs: Highs::new(),
             backstep,
         }
     }
 }
 
 impl ClockBank for TraceClocks {
-    ghost meaning = { λ s. trace_meaning s.highs s.backstep.millis };
+    ghost meaning = { λ s. trace_meaning (highs_of s.highs) s.backstep.millis };
 
     ghost lawful = { Prim.search rules };
 
-    fn look(&self, node: u8, raw: Raw) -> Result<Reading, Refusal> {
-        if usize::from(node) >= NODES {
-            return Err(Refusal::NoSuchNode);
-        }
-        let reading = Reading::new(raw.0)?;
-        if raw.0 + u64::from(self.backstep.millis) < self.highs[usize::from(node)] {
+    fn look(&self, sample: Sample) -> Result<Reading, Refusal> {
+        let high = self.highs.of(sample.node)?;
+        let reading = Reading::new(sample.raw.0)?;
+        let lowest = reading.millis() + u64::from(self.backstep.millis);
+        if high.is_some_and(|high| lowest < high.millis()) {
             return Err(Refusal::ClockFellBack);
         }
         Ok(reading)
     }
 
-    fn take(&mut self, node: u8, raw: Raw) -> Result<Reading, Refusal> {
-        let reading = self.look(node, raw)?;
-        let high = self.highs[usize::from(node)];
-        self.highs[usize::from(node)] = high.max(reading.millis());
+    fn take(&mut self, sample: Sample) -> Result<Reading, Refusal> {
+        let reading = self.look(sample)?;
+        self.highs.raise(sample.node, reading);
         Ok(reading)
     }
 }

@@ -1,14 +1,7 @@
-use Rattle.std.proofs.Common.{vec_items, arith}
+use Rattle.std.proofs.Common.{arith}
 use Rattle.clocks.specs.declared.sample.Sample.{Sample}
-use Rattle.clocks.proofs.Taking.{starts, goes_on, took}
+use Rattle.clocks.proofs.Taking.{goes_on, took}
 use Rattle.clocks.proofs.runs.take_all.Goals as goal
-
-pub loop-sample-init : goal.loop-sample-init
-loop-sample-init g c = record {
-  len = omega arith;
-  room = c.in_ok-reserve.ensures.ok;
-  so_far = starts (g.B.ClockBank.meaning c.args.bank.now) c.args.samples.now (vec_items c.reserve.new.self) (g.met.B.ClockBank.lawful c.args.bank.now);
-}
 
 pub loop-sample-preserved : goal.loop-sample-preserved
 loop-sample-preserved g c =

@@ -3,3 +3,4 @@ pub mod Stamp
 pub mod Lead
 pub mod Rules
 pub mod Examples
+pub mod Text

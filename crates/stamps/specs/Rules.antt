@@ -50,7 +50,3 @@ receipt_answer last sent reading = event_answer (receipt_stamp last sent reading
 abbrev pub lead_receipt_answer : ℕ → Timestamp → Timestamp → ℕ → Result StampedNumbers ℕ
 lead_receipt_answer lead last sent reading =
     (if is_too_far_ahead lead sent.time reading then Err 15 else receipt_answer last sent reading)
-
--- the counter that goes on, or 10
-abbrev pub next_counter : ℕ → Result ℕ ℕ
-next_counter counter = (if nat_le (counter + 1) max_counter then Ok (counter + 1) else Err 10)

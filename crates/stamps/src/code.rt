@@ -1,6 +1,8 @@
 // Stamps to codes and back.
-ghost use Rattle.std.specs.Prelude.{◌≡◌, IfSome, Some};
+ghost use Rattle.std.specs.Prelude.{◌≡◌, ◌==◌, IfSome, Some};
 ghost use Rattle.std.specs.Option.{option_map};
+ghost use Rattle.std.specs.Ordering.{nat_cmp};
+ghost use Rattle.stamps.specs.declared.stamp.Stamp.{Stamp};
 ghost use Rattle.stamps.specs.Stamp.{stamp_code, stamp_of, stamp_with_code, zero_stamp};
 
 use crate::stamp::Stamp;
@@ -19,10 +21,14 @@ impl Stamp {
         }
     }
 
-    // The stamp as one number. It is the code of no other stamp.
+    // The stamp as one number. It is the code of no other stamp, and stamps compare as their codes.
     pub fn code(self) -> u64
         ensures code { result ≡ stamp_code self }
         ensures back { stamp_with_code result ≡ Some (stamp_of self) }
+        ensures equality { (other : Stamp) → ⟦<Stamp as PartialEq>⟧.eq self other ≡ (result == stamp_code other) }
+        ensures order { (other : Stamp) → ⟦<Stamp as Ord>⟧.cmp self other ≡ nat_cmp result (stamp_code other) }
+        ensures partial_order { (other : Stamp) → ⟦<Stamp as PartialOrd>⟧.partial_cmp self other
+            ≡ Some (nat_cmp result (stamp_code other)) }
     {
         self.time * COUNTERS + u64::from(self.counter)
     }

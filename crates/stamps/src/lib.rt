@@ -4,7 +4,6 @@
 pub mod code;
 pub mod examples;
 pub mod lead;
-pub mod order;
 pub mod rules;
 pub mod stamp;
 pub mod stamped;

@@ -1,9 +1,11 @@
 // Stamps.
-ghost use Rattle.std.specs.Prelude.{◌≡◌, IsTrue};
+ghost use Rattle.std.specs.Prelude.{◌≡◌, IsTrue, Some};
 ghost use Rattle.stamps.specs.Range.{is_stamp};
 
+use std::fmt;
+
 // A time, which is a reading, and a counter; or 0.0, the last stamp of a node that has none.
-#[derive(Clone, Copy, Debug)]
+#[derive(Clone, Copy, PartialEq, Eq, PartialOrd, Ord, Debug)]
 pub struct Stamp {
     pub(crate) time: u64,
     pub(crate) counter: u16,
@@ -24,5 +26,15 @@ impl Stamp {
         ensures { result ≡ (stamp_of self).counter }
     {
         self.counter
+    }
+}
+
+impl fmt::Display for Stamp {
+    ghost use Rattle.stamps.specs.Text.{stamp_text};
+
+    ghost output = { λ s. Some (stamp_text s) };
+
+    fn fmt<W: fmt::Write>(&self, f: &mut fmt::Formatter<W>) -> fmt::Result {
+        write!(f, "{}.{}", self.time, self.counter)
     }
 }

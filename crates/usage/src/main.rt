@@ -11,6 +11,7 @@ ghost use Rattle.stamps.specs.Stamp.{zero_stamp};
 use clocks::backstep::Backstep;
 use clocks::bank::ClockBank;
 use clocks::reading::Raw;
+use clocks::sample::Sample;
 use clocks::trace_clocks::TraceClocks;
 use refusals::refusal::Refusal;
 use stamps::rules::stamp_own;
@@ -23,18 +24,13 @@ fn first_note(raw: Raw) -> Result<Stamped, Refusal>
     ensures { shown (result_map stamped_numbers result) ≡ note_answer zero_stamp (trace_answer 0 20 raw.0) }
 {
     let clocks = TraceClocks::new(Backstep::new(20)?);
-    let reading = clocks.look(0, raw)?;
+    let reading = clocks.look(Sample { node: 0, raw })?;
     stamp_own(Stamp::zero(), reading)
 }
 
 fn main(rt: HostRuntime) -> io::Result<()> {
     match first_note(Raw(1000)) {
-        Ok(stamped) => println!(rt;
-            "{}.{} drift {}",
-            stamped.stamp.time(),
-            stamped.stamp.counter(),
-            stamped.drift
-        ),
+        Ok(stamped) => println!(rt; "{stamped}"),
         Err(refusal) => println!(rt; "refused {}", refusal.number()),
     }
 }

@@ -36,6 +36,14 @@ fn stamp_at(code: u64) -> Stamp {
     Stamp::from_code(code).unwrap_or(Stamp::zero())
 }
 
+// A node's raw number.
+fn sample(node: u8, raw: u64) -> Sample {
+    Sample {
+        node,
+        raw: Raw(raw),
+    }
+}
+
 // What a bank answers to the raw numbers of one node, taken in turn.
 fn taken<B: ClockBank>(
     heap: Global,
@@ -43,20 +51,10 @@ fn taken<B: ClockBank>(
     node: u8,
     raws: &[u64],
 ) -> Result<Vec<Result<u64, u8>>, Fail> {
-    let mut samples = Vec::new(heap);
-    for raw in raws {
-        samples.push(Sample {
-            node,
-            raw: Raw(*raw),
-        })?;
-    }
+    let samples: Vec<Sample> = raws.iter().map(|raw| sample(node, *raw)).collect(heap)?;
     let mut answers = Vec::new(heap);
     take_all(bank, samples.as_slice(), &mut answers)?;
-    let mut numbers = Vec::new(heap);
-    for given in answers {
-        numbers.push(millis(given))?;
-    }
-    Ok(numbers)
+    Ok(answers.into_iter().map(millis).collect(heap)?)
 }
 
 #[test]
@@ -72,8 +70,8 @@ fn trace_clock_steps_back(rt: HostRuntime) -> Result<(), Fail> {
         found.as_slice(),
         &[Err(8), Err(8), Ok(1000), Ok(980), Err(9), Ok(1001), Err(9)][..]
     );
-    assert_eq!(rt; millis(clocks.look(14, Raw(1))), Ok(1));
-    assert_eq!(rt; millis(clocks.look(16, Raw(1))), Err(7));
+    assert_eq!(rt; millis(clocks.look(sample(14, 1))), Ok(1));
+    assert_eq!(rt; millis(clocks.look(sample(16, 1))), Err(7));
     Ok(())
 }
 
@@ -101,8 +99,8 @@ fn layers_on_layers(rt: HostRuntime) -> Result<(), Fail> {
             Err(9)
         ][..]
     );
-    assert_eq!(rt; millis(clocks.take(16, Raw(1))), Err(7));
-    assert_eq!(rt; millis(clocks.take(4, Raw(1))), Ok(5));
+    assert_eq!(rt; millis(clocks.take(sample(16, 1))), Err(7));
+    assert_eq!(rt; millis(clocks.take(sample(4, 1))), Ok(5));
     Ok(())
 }
 
@@ -155,7 +153,7 @@ fn settings_out_of_range(rt: HostRuntime) {
 #[test]
 fn drift_of_a_message(rt: HostRuntime) -> Result<(), Fail> {
     let mut clocks = TraceClocks::new(Backstep::new(20)?);
-    let reading = clocks.take(0, Raw(1000))?;
+    let reading = clocks.take(sample(0, 1000))?;
     let sent = stamp_at(1501 * 65_536);
     assert_eq!(rt;
         stamped_numbers(receive(Lead::new(500)?, Stamp::zero(), sent, reading)),
@@ -164,8 +162,8 @@ fn drift_of_a_message(rt: HostRuntime) -> Result<(), Fail> {
     let sent = stamp_at(1500 * 65_536);
     let received = receive(Lead::new(500)?, Stamp::zero(), sent, reading)?;
     assert_eq!(rt; stamped_numbers(Ok(received)), Ok((1500, 1, 500)));
-    assert_eq!(rt; millis(clocks.look(0, Raw(979))), Err(9));
-    let reading = clocks.take(0, Raw(980))?;
+    assert_eq!(rt; millis(clocks.look(sample(0, 979))), Err(9));
+    let reading = clocks.take(sample(0, 980))?;
     assert_eq!(rt;
         stamped_numbers(stamp_own(received.stamp, reading)),
         Ok((1500, 2, 520))
@@ -178,11 +176,11 @@ fn counter_spent(rt: HostRuntime) -> Result<(), Fail> {
     let mut clocks = TraceClocks::new(Backstep::new(0)?);
     let last = stamp_at(1000 * 65_536 + 65_535);
     assert_eq!(rt;
-        stamped_numbers(stamp_own(last, clocks.take(0, Raw(1000))?)),
+        stamped_numbers(stamp_own(last, clocks.take(sample(0, 1000))?)),
         Err(10)
     );
     assert_eq!(rt;
-        stamped_numbers(stamp_own(last, clocks.take(0, Raw(1001))?)),
+        stamped_numbers(stamp_own(last, clocks.take(sample(0, 1001))?)),
         Ok((1001, 0, 0))
     );
     Ok(())

@@ -39,8 +39,9 @@ impl ClockBank for TraceClocks {
     fn look(&self, sample: Sample) -> Result<Reading, Refusal> {
         let high = self.highs.of(sample.node)?;
         let reading = Reading::new(sample.raw.0)?;
-        let lowest = reading.millis() + u64::from(self.backstep.millis);
-        if high.is_some_and(|high| lowest < high.millis()) {
+        // The highest high that the reading may follow.
+        let reach = reading.millis() + u64::from(self.backstep.millis);
+        if high.is_some_and(|high| reach < high.millis()) {
             return Err(Refusal::ClockFellBack);
         }
         Ok(reading)

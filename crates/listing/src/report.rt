@@ -19,7 +19,7 @@ pub const LONGEST: usize = 65_536;
 fn add_record(text: &mut String, number: u64, record: &Record) -> Result<(), AllocError>
     ensures { Adds text.old text.new (record_line number (content_of «record».now)) result }
 {
-    let word = Word::from_record(record);
+    let word = Word::from(record);
     add_line(text, &[Piece::Number(number), Piece::Word(word)])
 }
 
@@ -45,7 +45,7 @@ fn add_records(text: &mut String, trace: &[u8]) -> Result<u64, AllocError>
     ensures count { IfOk result (λ n. n ≡ length (whole_of trace.now).records) }
 {
     let mut reader = Reader::new(trace);
-    let mut accepted = 0u64;
+    let mut accepted = 0;
     loop {
         match reader.next_entry() {
             Ok(Some(entry)) => {

@@ -1,7 +1,7 @@
 -- Bytes that are added one after another.
 use Rattle.std.proofs.Common.{◌≡◌, ℕ, ◌≤◌, ◌+◌, true, [], append-nil, if◌then◌else◌, List, ◌++◌, length, is_ok, is_err, Ok, Err, string_bytes, string_len, string_capacity, Result, String, refl, sym, ap, ◌∙◌, subst, append_assoc, arith, length-append}
 use Rattle.std.specs.Io.{StartsWith}
-use Rattle.std.proofs.Transfers.{starts_with_of_append, starts_with_trans}
+use Rattle.std.proofs.Transfers.{starts_with_of_eq, starts_with_of_append, starts_with_trans}
 use Rattle.std.proofs.lemmas.Bool.{false≢true}
 use Rattle.std.proofs.lemmas.Grind.{common_steps}
 use Rattle.listing.specs.Adding.{Adds}
@@ -23,6 +23,9 @@ pub record OnTheWay {Z : Type 0} (was mid : String Z) (all todo : List ℕ) : Ty
   pub bytes : string_bytes mid ++ todo ≡ string_bytes was ++ all
   pub kept : StartsWith (string_bytes mid) (string_bytes was)
   pub capacity : string_capacity was ≤ string_capacity mid
+
+pub start : {Z : Type 0} (was : String Z) (all : List ℕ) → OnTheWay was was all all
+start was all = record { bytes = refl; kept = starts_with_of_eq (string_bytes was) (string_bytes was) refl; capacity = omega arith }
 
 -- the last addition on the way
 pub arrive : {Z Y F : Type 0} {was mid after : String Z} {all todo : List ℕ} {q : Result Y F} → OnTheWay was mid all todo → Adds mid after todo q → Adds was after all q

@@ -61,21 +61,13 @@ fn add_records(text: &mut String, trace: &[u8]) -> Result<u64, AllocError>
     }
 }
 
-// Whether the trace is short enough to be listed. Every trace splits into records in one way.
-fn is_listed(trace: &[u8]) -> bool
-    ensures value { IsTrue result ↔ (length trace.now ≤ 65536) }
-    ensures records { SplitsOneWay trace.now }
-{
-    trace.get(LONGEST).is_none()
-}
-
 // Adds the whole listing of a trace to the text. The only failure is want of memory; the text has
 // then gained at most a first part of it.
 pub fn add_listing(text: &mut String, trace: &[u8]) -> Result<(), AllocError>
     ensures text { Adds text.old text.new (text_of trace.now) result }
     ensures records { SplitsOneWay trace.now }
 {
-    if !is_listed(trace) {
+    if trace.len() > LONGEST {
         return add_line(text, &[Piece::Word(Word::TooLong)]);
     }
     let accepted = add_records(text, trace)?;

@@ -1,4 +1,6 @@
-use Rattle.std.proofs.Common.{◌<◌, length, Ok, Err, refl, arith, rules, add-one}
+use Rattle.std.proofs.Common.{◌<◌, [], ◌∷◌, length, Ok, Err, refl, arith, rules, add-one}
+use denote.Shadow.{shadow}
+use denote.Text.{Utf8}
 use Rattle.listing.specs.declared.line.Piece.TheVariants.{Word}
 use Rattle.listing.specs.declared.line.Word.TheVariants.{SetUp}
 use Rattle.listing.proofs.Adding.{pushes, stop, step}
@@ -24,9 +26,10 @@ returns-in_err-add_piece c =
 
 pub loop-piece-preserved : goal.loop-piece-preserved
 loop-piece-preserved c =
+    let text : shadow (Utf8 (32 ∷ [])) = search rules in
     let i = c.loop-piece.piece-index in
     let h : i < length c.args.pieces.now = omega arith in
     let next = next_piece c.args.pieces.now i (Word SetUp) c.loop-piece.invariant.1 h in
     let a = c.in_ok-push_str.ensures in
     let way = step _ _ c.loop-piece.invariant.2 next (pushes {E = Unit {0}} (Ok c.in_ok-push_str.field-0) a.bytes a.capacity a.succeeds) in
-    (search rules, rw add-one refl, step _ _ way refl c.in_ok-add_piece.ensures)
+    (text, rw add-one refl, step _ _ way refl c.in_ok-add_piece.ensures)

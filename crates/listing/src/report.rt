@@ -46,6 +46,7 @@ fn add_records(text: &mut String, trace: &[u8]) -> Result<u64, AllocError>
 {
     let mut reader = Reader::new(trace);
     let mut accepted = 0;
+    // A `for` would hold the reader, which the line of a refusal asks for its place.
     loop {
         match reader.next_entry() {
             Ok(Some(entry)) => {

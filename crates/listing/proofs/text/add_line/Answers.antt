@@ -1,35 +1,29 @@
-use Rattle.std.proofs.Common.{◌<◌, [], ◌∷◌, length, Ok, Err, refl, arith, rules, add-one}
+use Rattle.std.proofs.Common.{[], ◌∷◌, Ok, Err, refl, arith, rules, add-one}
 use denote.Shadow.{shadow}
 use denote.Text.{Utf8}
 use Rattle.listing.specs.declared.line.Piece.TheVariants.{Word}
 use Rattle.listing.specs.declared.line.Word.TheVariants.{SetUp}
 use Rattle.listing.proofs.Adding.{pushes, stop, step}
-use Rattle.listing.proofs.Spacing.{next_piece}
+use Rattle.listing.proofs.Spacing.{gap_added, gap_failed}
 use Rattle.listing.proofs.text.add_line.Goals as goal
 
 pub returns-in_err-push_str : goal.returns-in_err-push_str
 returns-in_err-push_str c =
-    let i = c.loop-piece.piece-index in
-    let h : i < length c.args.pieces.now = omega arith in
-    let next = next_piece c.args.pieces.now i (Word SetUp) c.loop-piece.invariant.1 h in
     let a = c.in_err-push_str.ensures in
-    stop _ _ _ c.loop-piece.invariant.2 next (pushes {X = Unit {0}} (Err c.in_err-push_str.field-0.0) a.bytes a.capacity a.succeeds) c.from_residual.ensures.0
+    gap_failed c.args.pieces.now c.loop-piece.piece-index (Word SetUp) c.loop-piece.invariant.2 c.loop-piece.invariant.1 (omega arith)
+    c.from_residual.result (pushes {X = Unit {0}} (Err c.in_err-push_str.field-0.0) a.bytes a.capacity a.succeeds) c.from_residual.ensures.0
 
 pub returns-in_err-add_piece : goal.returns-in_err-add_piece
 returns-in_err-add_piece c =
-    let i = c.loop-piece.piece-index in
-    let h : i < length c.args.pieces.now = omega arith in
-    let next = next_piece c.args.pieces.now i (Word SetUp) c.loop-piece.invariant.1 h in
     let a = c.in_ok-push_str.ensures in
-    let way = step _ _ c.loop-piece.invariant.2 next (pushes {E = Unit {0}} (Ok c.in_ok-push_str.field-0) a.bytes a.capacity a.succeeds) in
+    let way = gap_added c.args.pieces.now c.loop-piece.piece-index (Word SetUp) c.loop-piece.invariant.2 c.loop-piece.invariant.1 (omega arith)
+    (pushes {E = Unit {0}} (Ok c.in_ok-push_str.field-0) a.bytes a.capacity a.succeeds) in
     stop _ _ _ way refl c.in_err-add_piece.ensures c.from_residual-in_err-add_piece.ensures.0
 
 pub loop-piece-preserved : goal.loop-piece-preserved
 loop-piece-preserved c =
     let text : shadow (Utf8 (32 ∷ [])) = search rules in
-    let i = c.loop-piece.piece-index in
-    let h : i < length c.args.pieces.now = omega arith in
-    let next = next_piece c.args.pieces.now i (Word SetUp) c.loop-piece.invariant.1 h in
     let a = c.in_ok-push_str.ensures in
-    let way = step _ _ c.loop-piece.invariant.2 next (pushes {E = Unit {0}} (Ok c.in_ok-push_str.field-0) a.bytes a.capacity a.succeeds) in
+    let way = gap_added c.args.pieces.now c.loop-piece.piece-index (Word SetUp) c.loop-piece.invariant.2 c.loop-piece.invariant.1 (omega arith)
+    (pushes {E = Unit {0}} (Ok c.in_ok-push_str.field-0) a.bytes a.capacity a.succeeds) in
     (text, rw add-one refl, step _ _ way refl c.in_ok-add_piece.ensures)

@@ -1,5 +1,5 @@
 // The text of a listing.
-ghost use Rattle.std.specs.Prelude.{◌≡◌, ◌≤◌, ◌↔◌, length, IfOk, IsTrue};
+ghost use Rattle.std.specs.Prelude.{◌≡◌, length, IfOk};
 ghost use Rattle.refusals.specs.Refusals.{number_of};
 ghost use Rattle.trace.specs.Contents.{content_of};
 ghost use Rattle.trace.specs.Whole.{whole_of, SplitsOneWay};
@@ -46,7 +46,7 @@ fn add_records(text: &mut String, trace: &[u8]) -> Result<u64, AllocError>
 {
     let mut reader = Reader::new(trace);
     let mut accepted = 0;
-    // A `for` would hold the reader, which the line of a refusal asks for its place.
+    // A `for` would hold the reader, and the line of a refusal asks it for the place.
     loop {
         match reader.next_entry() {
             Ok(Some(entry)) => {

@@ -2,8 +2,7 @@
 #![tactic(auto)]
 
 use listing::report;
-use std::io;
-use std::io::{Read, Write};
+use std::io::{self, Read, Write};
 
 fn main(rt: HostRuntime) -> io::Result<()> {
     let heap = rt.alloc();
@@ -13,6 +12,6 @@ fn main(rt: HostRuntime) -> io::Result<()> {
         .take(report::LONGEST as u64 + 1)
         .read_to_end(&mut trace)?;
     let mut text = String::new(heap);
-    report::add_listing(&mut text, trace.as_slice())?;
+    report::add_listing(&mut text, &trace)?;
     rt.stdout().write_all(text.as_bytes())
 }

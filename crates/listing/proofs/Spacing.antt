@@ -1,15 +1,23 @@
 -- The pieces of a line, one after another.
-use Rattle.std.proofs.Common.{◌≡◌, ℕ, zero, suc, ◌+◌, ◌<◌, List, [], ◌∷◌, ◌++◌, length, get_or, drop, refl, ap, ◌∙◌, append_assoc}
-use Rattle.std.proofs.lemmas.List.{drop_more}
+use Rattle.std.proofs.Common.{◌≡◌, ℕ, ◌+◌, ◌<◌, true, List, [], ◌∷◌, ◌++◌, length, get_or, drop, is_err, Ok, Err, Result, String, ap, ◌∙◌, append_assoc}
+use Rattle.std.proofs.lemmas.List.{at_drop_more}
+use Rattle.listing.specs.Adding.{Adds}
 use Rattle.listing.specs.declared.line.Piece.{Piece}
 use Rattle.listing.specs.Lines.{gap, piece_text, spaced_text}
+use Rattle.listing.proofs.Adding.{OnTheWay, step, stop}
 
-pub gap_later : (i : ℕ) → (i ≡ 0 → ⊥) → 32 ∷ [] ≡ gap i
-gap_later zero n = absurd (n refl)
-gap_later (suc i) n = refl
+-- before the i-th of the pieces of a line; g is the gap before that one
+module _ (ps : List Piece) (i : ℕ) (d : Piece) where
+  -- that piece, and what follows it
+  abbrev pub from_piece : List ℕ
+  from_piece = piece_text (get_or ps i d) ++ (spaced_text (i + 1) (drop (i + 1) ps) ++ 10 ∷ [])
 
--- the next piece of a line, and what follows it
-pub next_piece : (ps : List Piece) (i : ℕ) (d : Piece) → i < length ps
-    → spaced_text i (drop i ps) ++ (10 ∷ []) ≡ (gap i ++ piece_text (get_or ps i d)) ++ (spaced_text (i + 1) (drop (i + 1) ps) ++ (10 ∷ []))
-next_piece ps i d h =
-    ap (λ (t : List Piece). spaced_text i t ++ (10 ∷ [])) (drop_more ps i d h) ∙ append_assoc (gap i ++ piece_text (get_or ps i d)) (spaced_text (i + 1) (drop (i + 1) ps)) (10 ∷ [])
+  gap_first : {g : List ℕ} → g ≡ gap i → i < length ps → spaced_text i (drop i ps) ++ 10 ∷ [] ≡ g ++ from_piece
+  gap_first e h = rw e (ap (λ (t : List ℕ). t ++ 10 ∷ []) (at_drop_more (spaced_text i) ps i d h) ∙ simp append_assoc)
+
+  module _ {Z : Type 0} {was mid : String Z} {all g : List ℕ} (w : OnTheWay was mid all (spaced_text i (drop i ps) ++ 10 ∷ [])) (e : g ≡ gap i) (h : i < length ps) where
+    pub gap_added : {X E : Type 0} {after : String Z} {x : X} → Adds {E = E} mid after g (Ok x) → OnTheWay was after all from_piece
+    gap_added a = step _ _ w (gap_first e h) a
+
+    pub gap_failed : {X Y E F : Type 0} {after : String Z} {x : E} (q : Result Y F) → Adds {X = X} mid after g (Err x) → is_err q ≡ true → Adds was after all q
+    gap_failed q a f = stop _ _ q w (gap_first e h) a f

@@ -20,11 +20,11 @@ pub enum Word {
     TooLong,
 }
 
-impl Word {
-    // The word that a record goes by.
-    pub fn from_record(record: &Record) -> Word
-        ensures { result ≡ word_of (content_of «record».now) }
-    {
+// The word that a record goes by.
+impl From<&Record<'_>> for Word {
+    ghost from_gives = { λ r word. word ≡ word_of (content_of r.now) };
+
+    fn from(record: &Record) -> Word {
         match record {
             Record::SetUp { .. } => Word::SetUp,
             Record::Note { .. } => Word::Note,
@@ -35,7 +35,9 @@ impl Word {
             Record::ReadPoint { .. } | Record::ReadTag { .. } => Word::Read,
         }
     }
+}
 
+impl Word {
     pub fn as_str(self) -> &'static str
         ensures { result.now ≡ word_text self }
     {

@@ -1,5 +1,5 @@
 // The text of a listing.
-ghost use Rattle.std.specs.Prelude.{◌≡◌, ◌≤◌, ◌↔◌, length, IfOk, IsTrue};
+ghost use Rattle.std.specs.Prelude.{◌≡◌, length, IfOk};
 ghost use Rattle.refusals.specs.Refusals.{number_of};
 ghost use Rattle.trace.specs.Contents.{content_of};
 ghost use Rattle.trace.specs.Whole.{whole_of, SplitsOneWay};
@@ -19,7 +19,7 @@ pub const LONGEST: usize = 65_536;
 fn add_record(text: &mut String, number: u64, record: &Record) -> Result<(), AllocError>
     ensures { Adds text.old text.new (record_line number (content_of «record».now)) result }
 {
-    let word = Word::from_record(record);
+    let word = Word::from(record);
     add_line(text, &[Piece::Number(number), Piece::Word(word)])
 }
 
@@ -45,7 +45,8 @@ fn add_records(text: &mut String, trace: &[u8]) -> Result<u64, AllocError>
     ensures count { IfOk result (λ n. n ≡ length (whole_of trace.now).records) }
 {
     let mut reader = Reader::new(trace);
-    let mut accepted = 0u64;
+    let mut accepted = 0;
+    // A `for` would hold the reader, and the line of a refusal asks it for the place.
     loop {
         match reader.next_entry() {
             Ok(Some(entry)) => {
@@ -61,21 +62,13 @@ fn add_records(text: &mut String, trace: &[u8]) -> Result<u64, AllocError>
     }
 }
 
-// Whether the trace is short enough to be listed. Every trace splits into records in one way.
-fn is_listed(trace: &[u8]) -> bool
-    ensures value { IsTrue result ↔ (length trace.now ≤ 65536) }
-    ensures records { SplitsOneWay trace.now }
-{
-    trace.get(LONGEST).is_none()
-}
-
 // Adds the whole listing of a trace to the text. The only failure is want of memory; the text has
 // then gained at most a first part of it.
 pub fn add_listing(text: &mut String, trace: &[u8]) -> Result<(), AllocError>
     ensures text { Adds text.old text.new (text_of trace.now) result }
     ensures records { SplitsOneWay trace.now }
 {
-    if !is_listed(trace) {
+    if trace.len() > LONGEST {
         return add_line(text, &[Piece::Word(Word::TooLong)]);
     }
     let accepted = add_records(text, trace)?;

@@ -1,17 +1,29 @@
-use Rattle.std.proofs.Common.{ℕ, ◌+◌, ◌<◌, List, [], ◌∷◌, ◌++◌, length, get_or, drop, string_bytes, sym, ap, ◌∙◌, arith}
+use Rattle.std.proofs.Common.{[], ◌∷◌, Ok, Err, refl, arith, rules, add-one}
+use denote.Shadow.{shadow}
+use denote.Text.{Utf8}
 use Rattle.listing.specs.declared.line.Piece.TheVariants.{Word}
 use Rattle.listing.specs.declared.line.Word.TheVariants.{SetUp}
-use Rattle.listing.specs.Lines.{gap, piece_text, spaced_text, line_text}
-use Rattle.listing.proofs.Adding.{stop}
-use Rattle.listing.proofs.Spacing.{next_piece}
+use Rattle.listing.proofs.Adding.{pushes, stop, step}
+use Rattle.listing.proofs.Spacing.{gap_added, gap_failed}
 use Rattle.listing.proofs.text.add_line.Goals as goal
 
-pub returns-in_err-add_spaced : goal.returns-in_err-add_spaced
-returns-in_err-add_spaced c =
-    let ps = c.args.pieces.now in
-    let i = c.loop-i.i in
-    let text = string_bytes c.loop-i.text in
-    let h : i < length ps = omega arith in
-    let s = ap (λ (t : List ℕ). text ++ t) (sym (next_piece ps i (Word SetUp) h)) ∙ c.loop-i.invariant.0 in
-    stop c.args.text.now c.loop-i.text c.add_spaced.new.text (line_text ps) (gap i ++ piece_text (get_or ps i (Word SetUp))) (spaced_text (i + 1) (drop (i + 1) ps) ++ (10 ∷ []))
-    c.from_residual.result s c.loop-i.invariant.1 c.in_err-add_spaced.ensures c.from_residual.ensures.0
+pub returns-in_err-push_str : goal.returns-in_err-push_str
+returns-in_err-push_str c =
+    let a = c.in_err-push_str.ensures in
+    gap_failed c.args.pieces.now c.loop-piece.piece-index (Word SetUp) c.loop-piece.invariant.2 c.loop-piece.invariant.1 (omega arith)
+    c.from_residual.result (pushes {X = Unit {0}} (Err c.in_err-push_str.field-0.0) a.bytes a.capacity a.succeeds) c.from_residual.ensures.0
+
+pub returns-in_err-add_piece : goal.returns-in_err-add_piece
+returns-in_err-add_piece c =
+    let a = c.in_ok-push_str.ensures in
+    let way = gap_added c.args.pieces.now c.loop-piece.piece-index (Word SetUp) c.loop-piece.invariant.2 c.loop-piece.invariant.1 (omega arith)
+    (pushes {E = Unit {0}} (Ok c.in_ok-push_str.field-0) a.bytes a.capacity a.succeeds) in
+    stop _ _ _ way refl c.in_err-add_piece.ensures c.from_residual-in_err-add_piece.ensures.0
+
+pub loop-piece-preserved : goal.loop-piece-preserved
+loop-piece-preserved c =
+    let text : shadow (Utf8 (32 ∷ [])) = search rules in
+    let a = c.in_ok-push_str.ensures in
+    let way = gap_added c.args.pieces.now c.loop-piece.piece-index (Word SetUp) c.loop-piece.invariant.2 c.loop-piece.invariant.1 (omega arith)
+    (pushes {E = Unit {0}} (Ok c.in_ok-push_str.field-0) a.bytes a.capacity a.succeeds) in
+    (text, rw add-one refl, step _ _ way refl c.in_ok-add_piece.ensures)

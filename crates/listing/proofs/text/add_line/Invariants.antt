@@ -1,9 +1,12 @@
-use Rattle.std.proofs.Common.{◌≡◌, [], ◌∷◌, ◌++◌, drop, string_bytes}
-use Rattle.listing.specs.Lines.{spaced_text, line_text}
-use Rattle.listing.proofs.Adding.{Grows}
+use Rattle.std.proofs.Common.{◌≡◌, [], ◌∷◌, ◌++◌, drop}
+use denote.Text.{Utf8}
+use denote.Shadow.{shadow}
+use Rattle.listing.specs.Lines.{gap, spaced_text, line_text}
+use Rattle.listing.proofs.Adding.{OnTheWay}
 use Rattle.listing.proofs.text.add_line.Given as goal
 
-abbrev pub invariant-loop-i : goal.invariant-loop-i
-invariant-loop-i l =
-    (string_bytes l.text ++ (spaced_text l.i (drop l.i l.pieces) ++ 10 ∷ []) ≡ string_bytes l.initial.text ++ line_text l.pieces)
-    × Grows l.initial.text l.text
+abbrev pub invariant-loop-piece : goal.invariant-loop-piece
+invariant-loop-piece l =
+    shadow (Utf8 l.gap)
+    × (l.gap ≡ gap l.piece-index)
+    × OnTheWay l.initial.text l.text (line_text l.pieces) (spaced_text l.piece-index (drop l.piece-index l.pieces) ++ 10 ∷ [])

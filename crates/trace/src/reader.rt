@@ -120,7 +120,7 @@ pub fn entry_at<'a>(trace: &'a [u8], offset: usize) -> Result<Option<Entry<'a>>,
     let Some(&byte) = trace.get(offset) else {
         return Ok(None);
     };
-    let kind = Kind::from_byte(byte)?;
+    let kind = Kind::try_from(byte)?;
     let body = &trace[offset + 1..];
     if body.len() < kind.body_len() {
         return Err(Refusal::CutShort);

@@ -175,7 +175,7 @@ impl Record<'_> {
         if buffer.len() < place || buffer.len() - place < self.size() {
             return Err(Refusal::NoRoom);
         }
-        let behind_kind = put(buffer, place, &[self.kind().byte()]);
+        let behind_kind = put(buffer, place, &[self.kind().into()]);
         Ok(put_body(self, buffer, behind_kind))
     }
 }

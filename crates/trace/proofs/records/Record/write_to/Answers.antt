@@ -14,7 +14,7 @@ returns-clause-buffer c =
     let was = c.args.buffer.now in
     let kind = c.put-behind_kind.ensures in
     let fits : place + size_of m ≤ length was = omega arith in
-    let same : c.byte.result ≡ byte_of (kind_of m) = c.byte.ensures ∙ ap byte_of c.kind.ensures in
+    let same : c.into.result ≡ byte_of (kind_of m) = c.into.ensures ∙ ap byte_of c.kind.ensures in
     c.put_body.ensures.after
     ∙ ap (overlay _ _) kind.after
     ∙ overlay_overlay place _ was _ (body_of m) kind.place (omega arith)

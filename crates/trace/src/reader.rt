@@ -8,7 +8,7 @@ ghost use Rattle.trace.specs.Contents.{content_of};
 ghost use Rattle.trace.specs.Format.{part, content_from, finding_at, place_behind, entry_of, key_of, key_in_body, Stands};
 
 use crate::kind::Kind;
-use crate::records::{Entry, KeyField, Record};
+use crate::records::{Entry, Key, KeyField, Record};
 use refusals::refusal::Refusal;
 
 fn u32_at(body: &[u8], at: usize) -> u32
@@ -89,25 +89,25 @@ fn decoded<'a>(kind: Kind, body: &'a [u8], start: usize) -> Record<'a>
         Kind::Loss => Record::Loss {
             message: u32_at(body, 0),
         },
-        Kind::PutPoint => Record::PutPoint {
+        Kind::PutPoint => Record::Put {
             node: body[0],
             raw: u64_at(body, 1),
-            key: key_at::<4>(body, 9, start),
+            key: Key::Point(key_at(body, 9, start)),
             value: i32_at(body, 13),
         },
-        Kind::PutTag => Record::PutTag {
+        Kind::PutTag => Record::Put {
             node: body[0],
             raw: u64_at(body, 1),
-            key: key_at::<16>(body, 9, start),
+            key: Key::Tag(key_at(body, 9, start)),
             value: i32_at(body, 25),
         },
-        Kind::ReadPoint => Record::ReadPoint {
+        Kind::ReadPoint => Record::Read {
             at: u64_at(body, 0),
-            key: key_at::<4>(body, 8, start),
+            key: Key::Point(key_at(body, 8, start)),
         },
-        Kind::ReadTag => Record::ReadTag {
+        Kind::ReadTag => Record::Read {
             at: u64_at(body, 0),
-            key: key_at::<16>(body, 8, start),
+            key: Key::Tag(key_at(body, 8, start)),
         },
     }
 }

@@ -48,26 +48,25 @@ impl<'a> Body<'a> {
         ensures content { content_of result ≡ content_from kind self.entry.bytes.now }
         ensures key { key_of result ≡ key_in_body kind self.entry.start self.entry.bytes.now }
     {
-        let bytes = self.bytes;
         match kind {
             Kind::SetUp => Record::SetUp {
-                nodes: bytes[0],
-                key_kind: bytes[1],
+                nodes: self.bytes[0],
+                key_kind: self.bytes[1],
                 lead: u32::from_be_bytes(*self.part(2)),
                 backstep: u32::from_be_bytes(*self.part(6)),
             },
             Kind::Note => Record::Note {
-                node: bytes[0],
+                node: self.bytes[0],
                 raw: u64::from_be_bytes(*self.part(1)),
             },
             Kind::Send => Record::Send {
-                node: bytes[0],
+                node: self.bytes[0],
                 raw: u64::from_be_bytes(*self.part(1)),
-                to: bytes[9],
+                to: self.bytes[9],
                 message: u32::from_be_bytes(*self.part(10)),
             },
             Kind::Receipt => Record::Receipt {
-                node: bytes[0],
+                node: self.bytes[0],
                 raw: u64::from_be_bytes(*self.part(1)),
                 message: u32::from_be_bytes(*self.part(9)),
             },
@@ -75,13 +74,13 @@ impl<'a> Body<'a> {
                 message: u32::from_be_bytes(*self.part(0)),
             },
             Kind::PutPoint => Record::Put {
-                node: bytes[0],
+                node: self.bytes[0],
                 raw: u64::from_be_bytes(*self.part(1)),
                 key: Key::Point(self.key(9)),
                 value: i32::from_be_bytes(*self.part(13)),
             },
             Kind::PutTag => Record::Put {
-                node: bytes[0],
+                node: self.bytes[0],
                 raw: u64::from_be_bytes(*self.part(1)),
                 key: Key::Tag(self.key(9)),
                 value: i32::from_be_bytes(*self.part(25)),

@@ -30,14 +30,11 @@ pub fn write_and_read<'b>(record: &Record, buffer: &'b mut [u8], place: usize) -
         let found = Err(refusal);
         return ReadBack { found, buffer };
     }
-    match entry_at(buffer, place) {
-        Ok(Some(entry)) => {
-            let found = Ok(entry);
-            ReadBack { found, buffer }
-        }
-        Ok(None) => unreachable!(),
-        Err(_) => unreachable!(),
-    }
+    let Ok(Some(entry)) = entry_at(buffer, place) else {
+        unreachable!()
+    };
+    let found = Ok(entry);
+    ReadBack { found, buffer }
 }
 
 // Copies the record that stands at `offset` of the trace over the buffer from `place` on, and

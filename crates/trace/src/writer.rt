@@ -12,9 +12,12 @@ use crate::records::Record;
 use arrayvec::ArrayVec;
 use refusals::refusal::Refusal;
 
-// The parts one after another. The longest record has 30 bytes.
-fn joined(parts: &[&[u8]]) -> ArrayVec<u8, 30>
-    requires { length (flat_map (λ part. part.now) parts.now) ≤ 30 }
+// The size of the longest record, a put by a tag.
+const LONGEST: usize = 30;
+
+// The parts one after another.
+fn joined(parts: &[&[u8]]) -> ArrayVec<u8, LONGEST>
+    requires { length (flat_map (λ part. part.now) parts.now) ≤ LONGEST }
     ensures { result.items ≡ flat_map (λ part. part.now) parts.now }
 {
     let mut bytes = ArrayVec::new();
@@ -26,7 +29,7 @@ fn joined(parts: &[&[u8]]) -> ArrayVec<u8, 30>
 
 impl Record<'_> {
     // The record's bytes.
-    fn encoded(&self) -> ArrayVec<u8, 30>
+    fn encoded(&self) -> ArrayVec<u8, LONGEST>
         ensures bytes { result.items ≡ encoding_of (content_of self.now) }
         ensures ranges { IsInRange (content_of self.now) }
     {

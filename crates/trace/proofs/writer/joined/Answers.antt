@@ -1,5 +1,4 @@
 use Rattle.std.proofs.Common.{ℕ, List, Bor, arith}
-use Rattle.std.proofs.lemmas.Grind.{common_steps}
 use Rattle.std.proofs.lemmas.List.Folds.{length-flat_map-take}
 use Rattle.trace.proofs.writer.joined.Goals as goal
 

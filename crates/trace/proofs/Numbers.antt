@@ -2,10 +2,10 @@
 use Rattle.std.proofs.Common.{◌≡◌, ℕ, zero, suc, ◌+◌, ◌*◌, ◌/◌, ◌%◌, ◌^◌, ◌<◌, ◌≤◌, List, [], ◌∷◌, ◌++◌, length, get_or, take, drop, ℤ, sym, refl, ap, ◌∙◌, pow-suc, add-one, arith, length-drop, w32, SFits, to_z, of_z}
 use native.Mathlib.Nat.{div-div-eq-div-mul, pow-succ'}
 use mir.Facts.{Fits-of_z}
-use Rattle.std.proofs.lemmas.List.{take_more, get_or-take, get_or-drop, same_from_push}
+use Rattle.std.proofs.lemmas.List.{take_more, get_or-drop, same_from_push}
 use Rattle.std.proofs.lemmas.Int.{to_z-of_z, of_z-to_z}
-use Rattle.std.specs.Int.{from_be_bytes}
-use Rattle.trace.specs.Numbers.{unsigned_at, signed_at, byte_at, bytes_of, signed_bytes_of}
+use Rattle.std.specs.Int.{byte_at}
+use Rattle.trace.specs.Numbers.{unsigned_at, signed_at, bytes_of, signed_bytes_of}
 use Rattle.trace.specs.Format.{part}
 
 -- every number of the list is a byte
@@ -47,13 +47,6 @@ unsigned_lt (suc w) i bs u = omega (arith, unsigned_lt w i bs u, u (i + w), pow-
 
 pub bytes_signed : (i : ℕ) (bs : List ℕ) → i + 4 ≤ length bs → AllBytes bs → signed_bytes_of (signed_at i bs) ≡ part 4 i bs
 bytes_signed i bs h u = ap (bytes_of 4) (of_z-to_z w32 (unsigned_at 4 i bs) (unsigned_lt 4 i bs u)) ∙ bytes_unsigned 4 i bs h u
-
--- the signed number in four bytes that were taken from place i on
-pub signed_part : (t bs : List ℕ) (i : ℕ) → t ≡ part 4 i bs → to_z w32 (from_be_bytes w32 t) ≡ signed_at i bs
-signed_part t bs i e =
-    let byte : (k : ℕ) → k < 4 → get_or t k 0 ≡ get_or bs (i + k) 0 =
-    λ k h. ap (λ (s : List ℕ). get_or s k 0) e ∙ get_or-take 4 (drop i bs) k 0 h ∙ get_or-drop i bs k 0 in
-    ap (to_z w32) (omega (arith, byte 0 (omega arith), byte 1 (omega arith), byte 2 (omega arith), byte 3 (omega arith)))
 
 -- the last byte of a number
 bytes_last : (w n : ℕ) → bytes_of (suc w) n ≡ bytes_of w (n / 256) ++ (n % 256 ∷ [])

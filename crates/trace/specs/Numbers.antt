@@ -1,6 +1,6 @@
 -- Numbers in bytes, highest byte first.
-use Rattle.std.specs.Prelude.{ℕ, zero, suc, ◌+◌, ◌*◌, ◌/◌, ◌%◌, ◌^◌, List, [], ◌∷◌, ℤ, slice_index}
-use Rattle.std.specs.Int.{w32, cast_signed, cast_unsigned}
+use Rattle.std.specs.Prelude.{ℕ, zero, suc, ◌+◌, ◌*◌, List, ℤ, slice_index}
+use Rattle.std.specs.Int.{w32, cast_signed, cast_unsigned, bytes_high_first}
 
 -- the number in the w bytes from place i on
 abbrev pub unsigned_at : ℕ → ℕ → List ℕ → ℕ
@@ -11,15 +11,9 @@ unsigned_at (suc w) i bs = unsigned_at w i bs * 256 + slice_index bs (i + w)
 abbrev pub signed_at : ℕ → List ℕ → ℤ
 signed_at i bs = cast_signed w32 (unsigned_at 4 i bs)
 
--- the byte of n that has w bytes below it
-abbrev pub byte_at : ℕ → ℕ → ℕ
-byte_at zero n = n % 256
-byte_at (suc w) n = n / 256 ^ suc w % 256
-
 -- the w lowest bytes of n, highest first
 abbrev pub bytes_of : ℕ → ℕ → List ℕ
-bytes_of zero n = []
-bytes_of (suc w) n = byte_at w n ∷ bytes_of w n
+bytes_of w n = bytes_high_first w n
 
 -- the four bytes of a signed number, in two's complement
 abbrev pub signed_bytes_of : ℤ → List ℕ

@@ -4,7 +4,7 @@ ghost use Rattle.std.specs.Option.{option_map};
 ghost use Rattle.refusals.specs.Refusals.{shown, result_map};
 ghost use Rattle.trace.specs.Numbers.{unsigned_at, signed_at};
 ghost use Rattle.trace.specs.Kinds.{body_len_of};
-ghost use Rattle.trace.specs.Contents.{content_of};
+ghost use Rattle.trace.specs.Contents.{key_len, content_of};
 ghost use Rattle.trace.specs.Format.{part, content_from, finding_at, place_behind, entry_of, key_of, key_in_body, Stands};
 
 use crate::kind::Kind;
@@ -41,6 +41,21 @@ impl<'a> Body<'a> {
         }
     }
 
+    // The put that has this body, and this key at its place 9; the value stands behind the key.
+    fn put(self, key: Key<'a>) -> Record<'a>
+        requires { 9 + key_len key + 4 ≤ length self.bytes.now }
+        ensures { let bytes = self.entry.bytes.now in
+            let value = signed_at (9 + key_len key.entry) bytes in
+            result ≡ Record.Put (unsigned_at 1 0 bytes) (unsigned_at 8 1 bytes) key.entry value }
+    {
+        Record::Put {
+            node: self.bytes[0],
+            raw: u64::from_be_bytes(*self.part(1)),
+            key,
+            value: i32::from_be_bytes(*self.part(9 + key.bytes().len())),
+        }
+    }
+
     // The record of this kind that has this body.
     fn decoded(self, kind: Kind) -> Record<'a>
         requires whole { body_len_of kind ≤ length self.bytes.now }
@@ -73,18 +88,8 @@ impl<'a> Body<'a> {
             Kind::Loss => Record::Loss {
                 message: u32::from_be_bytes(*self.part(0)),
             },
-            Kind::PutPoint => Record::Put {
-                node: self.bytes[0],
-                raw: u64::from_be_bytes(*self.part(1)),
-                key: Key::Point(self.key(9)),
-                value: i32::from_be_bytes(*self.part(13)),
-            },
-            Kind::PutTag => Record::Put {
-                node: self.bytes[0],
-                raw: u64::from_be_bytes(*self.part(1)),
-                key: Key::Tag(self.key(9)),
-                value: i32::from_be_bytes(*self.part(25)),
-            },
+            Kind::PutPoint => self.put(Key::Point(self.key(9))),
+            Kind::PutTag => self.put(Key::Tag(self.key(9))),
             Kind::ReadPoint => Record::Read {
                 at: u64::from_be_bytes(*self.part(0)),
                 key: Key::Point(self.key(8)),

@@ -86,22 +86,14 @@ impl Record<'_> {
             Record::Send { .. } => Kind::Send,
             Record::Receipt { .. } => Kind::Receipt,
             Record::Loss { .. } => Kind::Loss,
-            Record::Put {
-                key: Key::Point(_),
-                ..
-            } => Kind::PutPoint,
-            Record::Put {
-                key: Key::Tag(_),
-                ..
-            } => Kind::PutTag,
-            Record::Read {
-                key: Key::Point(_),
-                ..
-            } => Kind::ReadPoint,
-            Record::Read {
-                key: Key::Tag(_),
-                ..
-            } => Kind::ReadTag,
+            Record::Put { key, .. } => match key {
+                Key::Point(_) => Kind::PutPoint,
+                Key::Tag(_) => Kind::PutTag,
+            },
+            Record::Read { key, .. } => match key {
+                Key::Point(_) => Kind::ReadPoint,
+                Key::Tag(_) => Kind::ReadTag,
+            },
         }
     }
 

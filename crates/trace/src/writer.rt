@@ -1,12 +1,9 @@
 // Writes records into a lent buffer.
-ghost use Rattle.std.specs.Prelude.{◌≡◌, ◌+◌, ◌≤◌, ◌∷◌, ◌++◌, length, flat_map, OnOk};
-ghost use Rattle.arrayvec.specs.ArrayVec.{array_vec_len};
+ghost use Rattle.std.specs.Prelude.{◌≡◌, ◌≤◌, length, flat_map, OnOk};
 ghost use Rattle.refusals.specs.Refusals.{shown};
-ghost use Rattle.trace.specs.Numbers.{bytes_of};
-ghost use Rattle.trace.specs.Kinds.{body_len_of};
-ghost use Rattle.trace.specs.Contents.{content_of, kind_of, body_of, encoding_of};
+ghost use Rattle.trace.specs.Contents.{content_of, encoding_of};
 ghost use Rattle.trace.specs.Ranges.{IsInRange};
-ghost use Rattle.trace.specs.Writing.{overlay, write_answer, buffer_after_write};
+ghost use Rattle.trace.specs.Writing.{write_answer, buffer_after_write};
 
 use crate::records::Record;
 use arrayvec::ArrayVec;

@@ -31,8 +31,8 @@ impl From<&Record<'_>> for Word {
             Record::Send { .. } => Word::Send,
             Record::Receipt { .. } => Word::Receipt,
             Record::Loss { .. } => Word::Loss,
-            Record::PutPoint { .. } | Record::PutTag { .. } => Word::Put,
-            Record::ReadPoint { .. } | Record::ReadTag { .. } => Word::Read,
+            Record::Put { .. } => Word::Put,
+            Record::Read { .. } => Word::Read,
         }
     }
 }

@@ -1,7 +1,6 @@
 pub mod Numbers
 pub mod Parsing
 pub mod Reading
-pub mod Over
 pub mod Trips
 pub mod Whole
 pub mod OneWay

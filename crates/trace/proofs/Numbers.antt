@@ -4,7 +4,8 @@ use native.Mathlib.Nat.{div-div-eq-div-mul, pow-succ'}
 use mir.Facts.{Fits-of_z}
 use Rattle.std.proofs.lemmas.List.{take_more, get_or-drop, same_from_push}
 use Rattle.std.proofs.lemmas.Int.{to_z-of_z, of_z-to_z}
-use Rattle.trace.specs.Numbers.{unsigned_at, signed_at, byte_at, bytes_of, signed_bytes_of}
+use Rattle.std.specs.Int.{byte_at}
+use Rattle.trace.specs.Numbers.{unsigned_at, signed_at, bytes_of, signed_bytes_of}
 use Rattle.trace.specs.Format.{part}
 
 -- every number of the list is a byte

@@ -1,12 +1,12 @@
 -- A trace splits into records in one way, and `whole_of` gives it.
-use Rattle.std.proofs.Common.{◌≡◌, ℕ, zero, suc, ◌+◌, ◌<◌, ◌≤◌, List, [], ◌∷◌, ◌++◌, length, drop, Some, None, Ok, Err, sym, refl, ap, ◌∙◌, subst, append_assoc, append-nil, add-zero, arith, length-append, length-drop, take-append-drop, length-take-le, drop-drop, w32, Fits}
+use Rattle.std.proofs.Common.{◌≡◌, ℕ, zero, suc, ◌+◌, ◌<◌, ◌≤◌, List, [], ◌∷◌, ◌++◌, length, drop, Some, None, Ok, Err, sym, refl, ap, ◌∙◌, subst, append_assoc, append-nil, add-zero, arith, length-append, length-drop, take-append-drop, length-take-le, drop-drop, w32, Fits, FitsSigned}
 use mir.Facts.{sfits_to_z}
 use Rattle.std.specs.Prelude.{All}
 use Rattle.std.proofs.lemmas.List.Elements.{All-nil, All-cons, All-head, All-tail}
 use Rattle.std.proofs.lemmas.List.{drop_all, get_or-drop}
 use Rattle.trace.specs.declared.kind.Kind.{Kind}
 use Rattle.trace.specs.declared.kind.Kind.TheVariants.{SetUp, Note, Send, Receipt, Loss, PutPoint, PutTag, ReadPoint, ReadTag}
-use Rattle.trace.specs.Numbers.{unsigned_at}
+use Rattle.trace.specs.Numbers.{unsigned_at, signed_at}
 use Rattle.trace.specs.Kinds.{body_len_of}
 use Rattle.trace.specs.Contents.{Content, kind_of, size_of, encoding_of}
 use Rattle.trace.specs.Ranges.{IsInRange}
@@ -23,18 +23,19 @@ use Rattle.trace.proofs.Whole.{rest, whole_rest, rest_record, rest_end, rest_ref
 part_length : (w i : ℕ) (bs : List ℕ) → i + w ≤ length bs → length (part w i bs) ≡ w
 part_length w i bs h = length-take-le w (drop i bs) (omega (arith, length-drop i bs))
 
+signed_fits : (i : ℕ) (bs : List ℕ) → AllBytes bs → FitsSigned w32 (signed_at i bs)
+signed_fits i bs u =
+    let f : Fits w32 (unsigned_at 4 i bs) = record { fits = unsigned_lt 4 i bs u } in
+    sfits_to_z {w = w32} f
+
 decoded_in_range : (k : Kind) (bs : List ℕ) → body_len_of k ≤ length bs → AllBytes bs → IsInRange (content_from k bs)
 decoded_in_range SetUp bs h u = (unsigned_lt 1 0 bs u, unsigned_lt 1 1 bs u, unsigned_lt 4 2 bs u, unsigned_lt 4 6 bs u)
 decoded_in_range Note bs h u = (unsigned_lt 1 0 bs u, unsigned_lt 8 1 bs u)
 decoded_in_range Send bs h u = (unsigned_lt 1 0 bs u, unsigned_lt 8 1 bs u, unsigned_lt 1 9 bs u, unsigned_lt 4 10 bs u)
 decoded_in_range Receipt bs h u = (unsigned_lt 1 0 bs u, unsigned_lt 8 1 bs u, unsigned_lt 4 9 bs u)
 decoded_in_range Loss bs h u = unsigned_lt 4 0 bs u
-decoded_in_range PutPoint bs h u =
-    let f : Fits w32 (unsigned_at 4 13 bs) = record { fits = unsigned_lt 4 13 bs u } in
-    (unsigned_lt 1 0 bs u, unsigned_lt 8 1 bs u, part_length 4 9 bs (omega arith), sfits_to_z {w = w32} f)
-decoded_in_range PutTag bs h u =
-    let f : Fits w32 (unsigned_at 4 25 bs) = record { fits = unsigned_lt 4 25 bs u } in
-    (unsigned_lt 1 0 bs u, unsigned_lt 8 1 bs u, part_length 16 9 bs (omega arith), sfits_to_z {w = w32} f)
+decoded_in_range PutPoint bs h u = (unsigned_lt 1 0 bs u, unsigned_lt 8 1 bs u, part_length 4 9 bs (omega arith), signed_fits 13 bs u)
+decoded_in_range PutTag bs h u = (unsigned_lt 1 0 bs u, unsigned_lt 8 1 bs u, part_length 16 9 bs (omega arith), signed_fits 25 bs u)
 decoded_in_range ReadPoint bs h u = (unsigned_lt 8 0 bs u, part_length 4 8 bs (omega arith))
 decoded_in_range ReadTag bs h u = (unsigned_lt 8 0 bs u, part_length 16 8 bs (omega arith))
 
@@ -84,8 +85,7 @@ reads (suc f) bs at u h l = go (finding_at bs at) refl (λ k p q. reads f bs k u
         )
 
 splits_all : (bs : List ℕ) (ms : List Content) (e : Ending) → SplitsFrom bs 0 ms e → Splits bs ms e
-splits_all bs ms complete s = s
-splits_all bs ms (refused n at) s = s
+splits_all bs ms e s = grind arith
 
 -- ---- no other records do
 

@@ -1,16 +1,16 @@
 -- A record that was written is read back.
-use Rattle.std.proofs.Common.{◌≡◌, ℕ, ◌+◌, ◌<◌, ◌≤◌, Bool, true, false, cond, List, ◌∷◌, ◌++◌, length, get_or, take, drop, Some, Ok, Err, Result, sym, refl, ap, ◌∙◌, subst, append_assoc, add-zero, arith, length-append, take_at, drop_at}
+use Rattle.std.proofs.Common.{◌≡◌, ℕ, ◌+◌, ◌^◌, ◌<◌, ◌≤◌, ℤ, w32, FitsSigned, List, ◌∷◌, ◌++◌, length, get_or, take, drop, Some, Ok, Result, sym, refl, ap, ◌∙◌, subst, append_assoc, add-zero, arith, length-append, take_at, drop_at, drop-drop}
 use lib.Seq.{drop-append-add}
 use Rattle.std.proofs.lemmas.List.{get_or-append-add, length-take-le}
-use Rattle.std.proofs.lemmas.Bool.{leb-true}
+use Rattle.std.proofs.lemmas.Bool.Decides.{nat_tests}
+use Rattle.std.proofs.lemmas.Grind.{common_steps}
 use Rattle.trace.specs.declared.kind.Kind.{Kind}
-use Rattle.trace.specs.declared.kind.Kind.TheVariants.{SetUp, Note, Send, Receipt, Loss, PutPoint, PutTag, ReadPoint, ReadTag}
-use Rattle.trace.specs.Numbers.{unsigned_at, signed_at, signed_bytes_of}
+use Rattle.trace.specs.Numbers.{unsigned_at, signed_at, bytes_of, signed_bytes_of}
 use Rattle.trace.specs.Kinds.{kind_at, byte_of, body_len_of}
-use Rattle.trace.specs.Contents.{Content, set_up, note, send, receipt, loss, put_point, put_tag, read_point, read_tag, kind_of, size_of, body_of, encoding_of}
+use Rattle.trace.specs.Contents.{Content, set_up, note, send, receipt, loss, put_point, put_tag, read_point, read_tag, kind_of, body_of, encoding_of}
 use Rattle.trace.specs.Ranges.{IsInRange}
 use Rattle.trace.specs.Format.{part, content_from, finding_at}
-use Rattle.trace.specs.Writing.{overlay, is_within, write_answer, buffer_after_write, read_back_answer}
+use Rattle.trace.specs.Writing.{overlay, write_answer, buffer_after_write, read_back_answer}
 use Rattle.trace.proofs.Numbers.{unsigned_bytes, signed_bytes}
 use Rattle.trace.proofs.Parsing.{parse_found}
 use Rattle.trace.proofs.Reading.{ap2}
@@ -21,6 +21,17 @@ key_part n t u post l = ap (take n) (append_assoc t u post) ∙ take_at t (u ++ 
 
 key_rest : (n : ℕ) (t u post : List ℕ) → length t ≡ n → drop n ((t ++ u) ++ post) ≡ u ++ post
 key_rest n t u post l = ap (drop n) (append_assoc t u post) ∙ drop_at t (u ++ post) n l
+
+-- the same of a put by a key of w bytes
+decode_put : (put : ℕ → ℕ → List ℕ → ℤ → Content) (w n raw : ℕ) (t : List ℕ) (v : ℤ) (post : List ℕ) → raw < 2 ^ 64 → length t ≡ w → FitsSigned w32 v
+    → let bs = n ∷ (bytes_of 8 raw ++ (t ++ signed_bytes_of v) ++ post) in put (unsigned_at 1 0 bs) (unsigned_at 8 1 bs) (part w 9 bs) (signed_at (9 + w) bs) ≡ put n raw t v
+decode_put put w n raw t v post r l f =
+    let bs = n ∷ (bytes_of 8 raw ++ (t ++ signed_bytes_of v) ++ post) in
+    let long : 9 + w + 4 ≤ length bs = omega (arith, length-append (t ++ signed_bytes_of v) post, length-append t (signed_bytes_of v), l) in
+    let e0 : unsigned_at 1 0 bs ≡ n = omega arith in
+    let rest : drop (9 + w) bs ≡ signed_bytes_of v ++ post = sym (drop-drop w 9 bs) ∙ key_rest w t (signed_bytes_of v) post l in
+    ap2 (λ (x : ℕ) (y : ℕ). put x y (part w 9 bs) (signed_at (9 + w) bs)) e0 (unsigned_bytes 8 raw 1 bs r (omega arith) refl)
+    ∙ ap2 (put n raw) (key_part w t (signed_bytes_of v) post l) (signed_bytes v (9 + w) bs f long (ap (take 4) rest))
 
 -- the body of a record, whatever follows it, is decoded to that record
 decode_body : (m : Content) (post : List ℕ) → IsInRange m → content_from (kind_of m) (body_of m ++ post) ≡ m
@@ -46,18 +57,8 @@ decode_body (receipt n raw m) post s =
     ap2 (λ (x : ℕ) (y : ℕ). receipt x y (unsigned_at 4 9 bs)) e0 (unsigned_bytes 8 raw 1 bs s.1 (omega arith) refl)
     ∙ ap (receipt n raw) (unsigned_bytes 4 m 9 bs s.2 (omega arith) refl)
 decode_body (loss m) post s = ap loss (unsigned_bytes 4 m 0 (body_of (loss m) ++ post) s (omega arith) refl)
-decode_body (put_point n raw t v) post s =
-    let bs = body_of (put_point n raw t v) ++ post in
-    let lb : 13 + 4 ≤ length bs = omega (arith, length-append (t ++ signed_bytes_of v) post, length-append t (signed_bytes_of v), s.2) in
-    let e0 : unsigned_at 1 0 bs ≡ n = omega arith in
-    ap2 (λ (x : ℕ) (y : ℕ). put_point x y (part 4 9 bs) (signed_at 13 bs)) e0 (unsigned_bytes 8 raw 1 bs s.1 (omega arith) refl)
-    ∙ ap2 (put_point n raw) (key_part 4 t (signed_bytes_of v) post s.2) (signed_bytes v 13 bs s.3 lb (ap (take 4) (key_rest 4 t (signed_bytes_of v) post s.2)))
-decode_body (put_tag n raw t v) post s =
-    let bs = body_of (put_tag n raw t v) ++ post in
-    let lb : 25 + 4 ≤ length bs = omega (arith, length-append (t ++ signed_bytes_of v) post, length-append t (signed_bytes_of v), s.2) in
-    let e0 : unsigned_at 1 0 bs ≡ n = omega arith in
-    ap2 (λ (x : ℕ) (y : ℕ). put_tag x y (part 16 9 bs) (signed_at 25 bs)) e0 (unsigned_bytes 8 raw 1 bs s.1 (omega arith) refl)
-    ∙ ap2 (put_tag n raw) (key_part 16 t (signed_bytes_of v) post s.2) (signed_bytes v 25 bs s.3 lb (ap (take 4) (key_rest 16 t (signed_bytes_of v) post s.2)))
+decode_body (put_point n raw t v) post s = decode_put put_point 4 n raw t v post s.1 s.2 s.3
+decode_body (put_tag n raw t v) post s = decode_put put_tag 16 n raw t v post s.1 s.2 s.3
 decode_body (read_point at t) post s =
     let bs = body_of (read_point at t) ++ post in
     ap2 read_point (unsigned_bytes 8 at 0 bs s.0 (omega arith) refl) (take_at t post 4 s.1)
@@ -66,27 +67,11 @@ decode_body (read_tag at t) post s =
     ap2 read_tag (unsigned_bytes 8 at 0 bs s.0 (omega arith) refl) (take_at t post 16 s.1)
 
 pub length_body : (m : Content) → IsInRange m → length (body_of m) ≡ body_len_of (kind_of m)
-length_body (set_up n k l b) s = refl
-length_body (note n raw) s = refl
-length_body (send n raw to m) s = refl
-length_body (receipt n raw m) s = refl
-length_body (loss m) s = refl
-length_body (put_point n raw t v) s = omega (arith, length-append t (signed_bytes_of v), s.2)
-length_body (put_tag n raw t v) s = omega (arith, length-append t (signed_bytes_of v), s.2)
-length_body (read_point at t) s = omega (arith, s.1)
-length_body (read_tag at t) s = omega (arith, s.1)
+length_body m s = grind (arith, common_steps)
 
 -- each kind's byte stands for it
 kind_of_byte : (k : Kind) → kind_at (byte_of k) ≡ Some k
-kind_of_byte SetUp = refl
-kind_of_byte Note = refl
-kind_of_byte Send = refl
-kind_of_byte Receipt = refl
-kind_of_byte Loss = refl
-kind_of_byte PutPoint = refl
-kind_of_byte PutTag = refl
-kind_of_byte ReadPoint = refl
-kind_of_byte ReadTag = refl
+kind_of_byte k = grind (arith, common_steps)
 
 -- what stands behind `pre`
 parse_behind : (pre body : List ℕ) (k : Kind) → body_len_of k ≤ length body → finding_at (pre ++ (byte_of k ∷ body)) (length pre) ≡ Ok (Some (length pre, content_from k body))
@@ -116,13 +101,4 @@ read_over m place buffer s h =
 -- a record that the writer took is read back
 pub read_back : (m : Content) (place n : ℕ) (was after : List ℕ) → ◌≡◌ {A = Result ℕ ℕ} (Ok n) (write_answer m place was) → after ≡ buffer_after_write m place was → IsInRange m
     → (finding_at after place ≡ Ok (Some (place, m))) × (read_back_answer m place was ≡ Ok (place, m))
-read_back m place n was after e w s = go (is_within place (size_of m) was) refl
-  where
-    go : (b : Bool) → is_within place (size_of m) was ≡ b → (finding_at after place ≡ Ok (Some (place, m))) × (read_back_answer m place was ≡ Ok (place, m))
-    go true q =
-        let h : place ≤ length was = omega (arith, leb-true (place + size_of m) (length was) q) in
-        let a : after ≡ overlay place (encoding_of m) was = w ∙ ap (λ (b : Bool). cond b (overlay place (encoding_of m) was) was) q in
-        (ap (λ (bs : List ℕ). finding_at bs place) a ∙ read_over m place was s h, ap (λ (b : Bool). cond b (Ok (place, m)) (Err 19)) q)
-    go false q =
-        let f : ◌≡◌ {A = Result ℕ ℕ} (Ok n) (Err 19) = e ∙ ap (λ (b : Bool). cond b (Ok (place + size_of m)) (Err 19)) q in
-        let z : ◌≡◌ {A = ℕ} 0 1 = cc in absurd (omega arith)
+read_back m place n was after e w s = grind (arith, nat_tests, read_over)

@@ -2,6 +2,8 @@
 use Rattle.std.specs.Prelude.{ℕ, ◌+◌, List, ◌∷◌, ◌++◌, ℤ}
 use Rattle.trace.specs.declared.kind.Kind.{Kind}
 use Rattle.trace.specs.declared.kind.Kind.TheVariants.{SetUp, Note, Send, Receipt, Loss, PutPoint, PutTag, ReadPoint, ReadTag}
+use Rattle.trace.specs.declared.records.Key.{Key}
+use Rattle.trace.specs.declared.records.Key.TheVariants.{Point, Tag}
 use Rattle.trace.specs.declared.records.Record.{Record}
 use Rattle.trace.specs.declared.records.Record.TheVariants as variant
 use Rattle.trace.specs.Numbers.{bytes_of, signed_bytes_of}
@@ -19,6 +21,16 @@ pub data Content : Type 0 where
   read_point : (at : ℕ) (key : List ℕ) → Content
   read_tag : (at : ℕ) (key : List ℕ) → Content
 
+-- a key's bytes
+abbrev pub key_bytes : Key → List ℕ
+key_bytes (Point field) = field.bytes.now
+key_bytes (Tag field) = field.bytes.now
+
+-- how many bytes a key has
+abbrev pub key_len : Key → ℕ
+key_len (Point field) = 4
+key_len (Tag field) = 16
+
 -- what a record of the code says
 abbrev pub content_of : Record → Content
 content_of (variant.SetUp nodes key_kind lead backstep) = set_up nodes key_kind lead backstep
@@ -26,10 +38,10 @@ content_of (variant.Note node raw) = note node raw
 content_of (variant.Send node raw to message) = send node raw to message
 content_of (variant.Receipt node raw message) = receipt node raw message
 content_of (variant.Loss message) = loss message
-content_of (variant.PutPoint node raw key value) = put_point node raw key.bytes.now value
-content_of (variant.PutTag node raw key value) = put_tag node raw key.bytes.now value
-content_of (variant.ReadPoint at key) = read_point at key.bytes.now
-content_of (variant.ReadTag at key) = read_tag at key.bytes.now
+content_of (variant.Put node raw (Point field) value) = put_point node raw field.bytes.now value
+content_of (variant.Put node raw (Tag field) value) = put_tag node raw field.bytes.now value
+content_of (variant.Read at (Point field)) = read_point at field.bytes.now
+content_of (variant.Read at (Tag field)) = read_tag at field.bytes.now
 
 abbrev pub kind_of : Content → Kind
 kind_of (set_up nodes key_kind lead backstep) = SetUp

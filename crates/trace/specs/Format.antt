@@ -4,6 +4,8 @@ use Rattle.std.specs.Option.{option_map}
 use Rattle.trace.specs.declared.kind.Kind.{Kind}
 use Rattle.trace.specs.declared.kind.Kind.TheVariants.{SetUp, Note, Send, Receipt, Loss, PutPoint, PutTag, ReadPoint, ReadTag}
 use Rattle.trace.specs.declared.records.Entry.{Entry}
+use Rattle.trace.specs.declared.records.Key.{Key}
+use Rattle.trace.specs.declared.records.Key.TheVariants.{Point, Tag}
 use Rattle.trace.specs.declared.records.Record.{Record}
 use Rattle.trace.specs.declared.records.Record.TheVariants as variant
 use Rattle.trace.specs.Numbers.{unsigned_at, signed_at}
@@ -60,6 +62,11 @@ place_behind at (Ok (Some (i, m))) = at + size_of m
 abbrev pub entry_of : Entry → ℕ × Content
 entry_of e = (e.offset, content_of e.«record»)
 
+-- a key's place and its bytes
+abbrev pub key_parts : Key → ℕ × List ℕ
+key_parts (Point field) = (field.offset, field.bytes.now)
+key_parts (Tag field) = (field.offset, field.bytes.now)
+
 -- the place and the bytes of a record's key, if it has one
 abbrev pub key_of : Record → Option (ℕ × List ℕ)
 key_of (variant.SetUp nodes key_kind lead backstep) = None
@@ -67,10 +74,8 @@ key_of (variant.Note node raw) = None
 key_of (variant.Send node raw to message) = None
 key_of (variant.Receipt node raw message) = None
 key_of (variant.Loss message) = None
-key_of (variant.PutPoint node raw key value) = Some (key.offset, key.bytes.now)
-key_of (variant.PutTag node raw key value) = Some (key.offset, key.bytes.now)
-key_of (variant.ReadPoint at key) = Some (key.offset, key.bytes.now)
-key_of (variant.ReadTag at key) = Some (key.offset, key.bytes.now)
+key_of (variant.Put node raw key value) = Some (key_parts key)
+key_of (variant.Read at key) = Some (key_parts key)
 
 -- the width of a kind's key and its place in the body
 abbrev pub key_span_of : Kind → Option (ℕ × ℕ)

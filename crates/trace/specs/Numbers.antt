@@ -1,7 +1,6 @@
 -- Numbers in bytes, highest byte first.
-use Rattle.std.specs.Prelude.{ℕ, zero, suc, ◌+◌, ◌*◌, ◌/◌, ◌%◌, ◌^◌, List, [], ◌∷◌, ℤ, slice_index}
-use Rattle.std.proofs.Common.{to_z, of_z}
-use Rattle.std.specs.Int.{w32}
+use Rattle.std.specs.Prelude.{ℕ, zero, suc, ◌+◌, ◌*◌, List, ℤ, slice_index}
+use Rattle.std.specs.Int.{w32, cast_signed, cast_unsigned, bytes_high_first}
 
 -- the number in the w bytes from place i on
 abbrev pub unsigned_at : ℕ → ℕ → List ℕ → ℕ
@@ -10,18 +9,12 @@ unsigned_at (suc w) i bs = unsigned_at w i bs * 256 + slice_index bs (i + w)
 
 -- the number in the four bytes from place i on, in two's complement
 abbrev pub signed_at : ℕ → List ℕ → ℤ
-signed_at i bs = to_z w32 (unsigned_at 4 i bs)
-
--- the byte of n that has w bytes below it
-abbrev pub byte_at : ℕ → ℕ → ℕ
-byte_at zero n = n % 256
-byte_at (suc w) n = n / 256 ^ suc w % 256
+signed_at i bs = cast_signed w32 (unsigned_at 4 i bs)
 
 -- the w lowest bytes of n, highest first
 abbrev pub bytes_of : ℕ → ℕ → List ℕ
-bytes_of zero n = []
-bytes_of (suc w) n = byte_at w n ∷ bytes_of w n
+bytes_of w n = bytes_high_first w n
 
 -- the four bytes of a signed number, in two's complement
 abbrev pub signed_bytes_of : ℤ → List ℕ
-signed_bytes_of z = bytes_of 4 (of_z w32 z)
+signed_bytes_of z = bytes_of 4 (cast_unsigned w32 z)

@@ -6,24 +6,27 @@ ghost use Rattle.trace.specs.Kinds.{kind_at, byte_of, body_len_of};
 
 use refusals::refusal::Refusal;
 
+// A kind of record, and the byte that stands for it.
 #[derive(Clone, Copy, PartialEq, Eq, Debug)]
 pub enum Kind {
-    SetUp,
-    Note,
-    Send,
-    Receipt,
-    Loss,
-    PutPoint,
-    PutTag,
-    ReadPoint,
-    ReadTag,
+    SetUp = 0,
+    Note = 1,
+    Send = 2,
+    Receipt = 3,
+    Loss = 4,
+    PutPoint = 5,
+    PutTag = 6,
+    ReadPoint = 7,
+    ReadTag = 8,
 }
 
-impl Kind {
-    // The kind that this byte stands for, refused where there is none.
-    pub fn from_byte(byte: u8) -> Result<Kind, Refusal>
-        ensures { shown result ≡ ok_or (kind_at byte) 1 }
-    {
+// The kind that a byte stands for, refused where there is none.
+impl TryFrom<u8> for Kind {
+    type Error = Refusal;
+
+    ghost try_from_gives = { λ byte result. shown result ≡ ok_or (kind_at byte) 1 };
+
+    fn try_from(byte: u8) -> Result<Kind, Refusal> {
         match byte {
             0 => Ok(Kind::SetUp),
             1 => Ok(Kind::Note),
@@ -37,24 +40,18 @@ impl Kind {
             _ => Err(Refusal::UnknownKind),
         }
     }
+}
 
-    // The byte that stands for this kind.
-    pub fn byte(self) -> u8
-        ensures { result ≡ byte_of self }
-    {
-        match self {
-            Kind::SetUp => 0,
-            Kind::Note => 1,
-            Kind::Send => 2,
-            Kind::Receipt => 3,
-            Kind::Loss => 4,
-            Kind::PutPoint => 5,
-            Kind::PutTag => 6,
-            Kind::ReadPoint => 7,
-            Kind::ReadTag => 8,
-        }
+// The byte that stands for a kind.
+impl From<Kind> for u8 {
+    ghost from_gives = { λ kind byte. byte ≡ byte_of kind };
+
+    fn from(kind: Kind) -> u8 {
+        kind as u8
     }
+}
 
+impl Kind {
     // How many bytes follow the byte of kind.
     pub fn body_len(self) -> usize
         ensures { result ≡ body_len_of self }

@@ -4,111 +4,101 @@ ghost use Rattle.std.specs.Option.{option_map};
 ghost use Rattle.refusals.specs.Refusals.{shown, result_map};
 ghost use Rattle.trace.specs.Numbers.{unsigned_at, signed_at};
 ghost use Rattle.trace.specs.Kinds.{body_len_of};
-ghost use Rattle.trace.specs.Contents.{content_of};
+ghost use Rattle.trace.specs.Contents.{key_len, content_of};
 ghost use Rattle.trace.specs.Format.{part, content_from, finding_at, place_behind, entry_of, key_of, key_in_body, Stands};
 
 use crate::kind::Kind;
-use crate::records::{Entry, KeyField, Record};
+use crate::records::{Entry, Key, KeyField, Record};
 use refusals::refusal::Refusal;
 
-fn u32_at(body: &[u8], at: usize) -> u32
-    requires { at + 4 ≤ length body.now }
-    ensures { result ≡ unsigned_at 4 at body.now }
-{
-    u32::from_be_bytes([body[at], body[at + 1], body[at + 2], body[at + 3]])
+// The bytes from a record's body on; the body begins at `start` of its trace.
+#[derive(Clone, Copy)]
+struct Body<'a> {
+    bytes: &'a [u8],
+    start: usize,
 }
 
-fn i32_at(body: &[u8], at: usize) -> i32
-    requires { at + 4 ≤ length body.now }
-    ensures { result ≡ signed_at at body.now }
-{
-    i32::from_be_bytes([body[at], body[at + 1], body[at + 2], body[at + 3]])
-}
-
-fn u64_at(body: &[u8], at: usize) -> u64
-    requires { at + 8 ≤ length body.now }
-    ensures { result ≡ unsigned_at 8 at body.now }
-{
-    u64::from_be_bytes([
-        body[at],
-        body[at + 1],
-        body[at + 2],
-        body[at + 3],
-        body[at + 4],
-        body[at + 5],
-        body[at + 6],
-        body[at + 7],
-    ])
-}
-
-// The key at place `at` of a body that begins at `start` of its trace.
-fn key_at<'a, const N: usize>(body: &'a [u8], at: usize, start: usize) -> KeyField<'a, N>
-    requires whole { at + N ≤ length body.now }
-    requires place { start + at < 2 ^ 64 }
-    ensures offset { result.offset ≡ start + at }
-    ensures bytes { result.bytes.now ≡ part N at body.now }
-{
-    let Some(bytes) = body[at..].first_chunk::<N>() else {
-        unreachable!()
-    };
-    KeyField {
-        offset: start + at,
-        bytes,
+impl<'a> Body<'a> {
+    // The N bytes from `at` on.
+    fn part<const N: usize>(self, at: usize) -> &'a [u8; N]
+        requires { at + N ≤ length self.bytes.now }
+        ensures { result.now ≡ part N at self.entry.bytes.now }
+    {
+        let bytes = self.bytes;
+        bytes[at..].first_chunk().unwrap()
     }
-}
 
-// The record of this kind with this body, which begins at `start` of its trace.
-fn decoded<'a>(kind: Kind, body: &'a [u8], start: usize) -> Record<'a>
-    requires whole { body_len_of kind ≤ length body.now }
-    requires places { start + length body.now < 2 ^ 64 }
-    ensures content { content_of result ≡ content_from kind body.now }
-    ensures key { key_of result ≡ key_in_body kind start body.now }
-{
-    match kind {
-        Kind::SetUp => Record::SetUp {
-            nodes: body[0],
-            key_kind: body[1],
-            lead: u32_at(body, 2),
-            backstep: u32_at(body, 6),
-        },
-        Kind::Note => Record::Note {
-            node: body[0],
-            raw: u64_at(body, 1),
-        },
-        Kind::Send => Record::Send {
-            node: body[0],
-            raw: u64_at(body, 1),
-            to: body[9],
-            message: u32_at(body, 10),
-        },
-        Kind::Receipt => Record::Receipt {
-            node: body[0],
-            raw: u64_at(body, 1),
-            message: u32_at(body, 9),
-        },
-        Kind::Loss => Record::Loss {
-            message: u32_at(body, 0),
-        },
-        Kind::PutPoint => Record::PutPoint {
-            node: body[0],
-            raw: u64_at(body, 1),
-            key: key_at::<4>(body, 9, start),
-            value: i32_at(body, 13),
-        },
-        Kind::PutTag => Record::PutTag {
-            node: body[0],
-            raw: u64_at(body, 1),
-            key: key_at::<16>(body, 9, start),
-            value: i32_at(body, 25),
-        },
-        Kind::ReadPoint => Record::ReadPoint {
-            at: u64_at(body, 0),
-            key: key_at::<4>(body, 8, start),
-        },
-        Kind::ReadTag => Record::ReadTag {
-            at: u64_at(body, 0),
-            key: key_at::<16>(body, 8, start),
-        },
+    // The key of N bytes from `at` on.
+    fn key<const N: usize>(self, at: usize) -> KeyField<'a, N>
+        requires whole { at + N ≤ length self.bytes.now }
+        requires place { self.start + at < 2 ^ 64 }
+        ensures offset { result.offset ≡ self.entry.start + at }
+        ensures bytes { result.bytes.now ≡ part N at self.entry.bytes.now }
+    {
+        KeyField {
+            offset: self.start + at,
+            bytes: self.part(at),
+        }
+    }
+
+    // The put that has this body, and this key at its place 9; the value stands behind the key.
+    fn put(self, key: Key<'a>) -> Record<'a>
+        requires { 9 + key_len key + 4 ≤ length self.bytes.now }
+        ensures { let bytes = self.entry.bytes.now in
+            let value = signed_at (9 + key_len key.entry) bytes in
+            result ≡ Record.Put (unsigned_at 1 0 bytes) (unsigned_at 8 1 bytes) key.entry value }
+    {
+        Record::Put {
+            node: self.bytes[0],
+            raw: u64::from_be_bytes(*self.part(1)),
+            key,
+            value: i32::from_be_bytes(*self.part(9 + key.bytes().len())),
+        }
+    }
+
+    // The record of this kind that has this body.
+    fn decoded(self, kind: Kind) -> Record<'a>
+        requires whole { body_len_of kind ≤ length self.bytes.now }
+        requires places { self.start + length self.bytes.now < 2 ^ 64 }
+        ensures content { content_of result ≡ content_from kind self.entry.bytes.now }
+        ensures key { key_of result ≡ key_in_body kind self.entry.start self.entry.bytes.now }
+    {
+        match kind {
+            Kind::SetUp => Record::SetUp {
+                nodes: self.bytes[0],
+                key_kind: self.bytes[1],
+                lead: u32::from_be_bytes(*self.part(2)),
+                backstep: u32::from_be_bytes(*self.part(6)),
+            },
+            Kind::Note => Record::Note {
+                node: self.bytes[0],
+                raw: u64::from_be_bytes(*self.part(1)),
+            },
+            Kind::Send => Record::Send {
+                node: self.bytes[0],
+                raw: u64::from_be_bytes(*self.part(1)),
+                to: self.bytes[9],
+                message: u32::from_be_bytes(*self.part(10)),
+            },
+            Kind::Receipt => Record::Receipt {
+                node: self.bytes[0],
+                raw: u64::from_be_bytes(*self.part(1)),
+                message: u32::from_be_bytes(*self.part(9)),
+            },
+            Kind::Loss => Record::Loss {
+                message: u32::from_be_bytes(*self.part(0)),
+            },
+            Kind::PutPoint => self.put(Key::Point(self.key(9))),
+            Kind::PutTag => self.put(Key::Tag(self.key(9))),
+            Kind::ReadPoint => Record::Read {
+                at: u64::from_be_bytes(*self.part(0)),
+                key: Key::Point(self.key(8)),
+            },
+            Kind::ReadTag => Record::Read {
+                at: u64::from_be_bytes(*self.part(0)),
+                key: Key::Tag(self.key(8)),
+            },
+        }
     }
 }
 
@@ -120,12 +110,13 @@ pub fn entry_at<'a>(trace: &'a [u8], offset: usize) -> Result<Option<Entry<'a>>,
     let Some(&byte) = trace.get(offset) else {
         return Ok(None);
     };
-    let kind = Kind::from_byte(byte)?;
-    let body = &trace[offset + 1..];
-    if body.len() < kind.body_len() {
+    let kind = Kind::try_from(byte)?;
+    let start = offset + 1;
+    let bytes = &trace[start..];
+    if bytes.len() < kind.body_len() {
         return Err(Refusal::CutShort);
     }
-    let record = decoded(kind, body, offset + 1);
+    let record = Body { bytes, start }.decoded(kind);
     Ok(Some(Entry { offset, record }))
 }
 

@@ -1,14 +1,35 @@
 // A record of a trace.
-ghost use Rattle.std.specs.Prelude.{◌≡◌};
-ghost use Rattle.trace.specs.Contents.{content_of, kind_of, size_of};
+ghost use Rattle.std.specs.Prelude.{◌≡◌, length};
+ghost use Rattle.trace.specs.Contents.{key_bytes, key_len, content_of, kind_of, size_of};
 
 use crate::kind::Kind;
 
-// The key of a put or a read: its place in the trace, and that part of the trace's own bytes.
+// A key of N bytes: its place in the trace, and that part of the trace's own bytes. A derived `==` or
+// `Debug` is not proved here, since it asks that N is below 2^63; so what holds a key has neither.
 #[derive(Clone, Copy)]
 pub struct KeyField<'a, const N: usize> {
     pub offset: usize,
     pub bytes: &'a [u8; N],
+}
+
+// The key of a put or a read: a point's or a tag's.
+#[derive(Clone, Copy)]
+pub enum Key<'a> {
+    Point(KeyField<'a, 4>),
+    Tag(KeyField<'a, 16>),
+}
+
+impl<'a> Key<'a> {
+    // The key's bytes.
+    pub fn bytes(&self) -> &'a [u8]
+        ensures bytes { result.now ≡ key_bytes self.now }
+        ensures len { length result.now ≡ key_len self.now }
+    {
+        match *self {
+            Key::Point(KeyField { bytes, .. }) => bytes,
+            Key::Tag(KeyField { bytes, .. }) => bytes,
+        }
+    }
 }
 
 // What one record says. A raw number is a node's own count of time, and `at` the stamp that a read
@@ -17,7 +38,8 @@ pub struct KeyField<'a, const N: usize> {
 pub enum Record<'a> {
     // How many nodes there are, their key kind (0 for points, 1 for tags), how far a message's time
     // may lead the reading of the node that receives it, and the largest step back of a clock; both
-    // in milliseconds.
+    // in milliseconds. The key kind is a byte since the format takes any byte there: a run, and not
+    // the reader, refuses one above 1.
     SetUp {
         nodes: u8,
         key_kind: u8,
@@ -42,25 +64,15 @@ pub enum Record<'a> {
     Loss {
         message: u32,
     },
-    PutPoint {
+    Put {
         node: u8,
         raw: u64,
-        key: KeyField<'a, 4>,
+        key: Key<'a>,
         value: i32,
     },
-    PutTag {
-        node: u8,
-        raw: u64,
-        key: KeyField<'a, 16>,
-        value: i32,
-    },
-    ReadPoint {
+    Read {
         at: u64,
-        key: KeyField<'a, 4>,
-    },
-    ReadTag {
-        at: u64,
-        key: KeyField<'a, 16>,
+        key: Key<'a>,
     },
 }
 
@@ -74,10 +86,14 @@ impl Record<'_> {
             Record::Send { .. } => Kind::Send,
             Record::Receipt { .. } => Kind::Receipt,
             Record::Loss { .. } => Kind::Loss,
-            Record::PutPoint { .. } => Kind::PutPoint,
-            Record::PutTag { .. } => Kind::PutTag,
-            Record::ReadPoint { .. } => Kind::ReadPoint,
-            Record::ReadTag { .. } => Kind::ReadTag,
+            Record::Put { key, .. } => match key {
+                Key::Point(_) => Kind::PutPoint,
+                Key::Tag(_) => Kind::PutTag,
+            },
+            Record::Read { key, .. } => match key {
+                Key::Point(_) => Kind::ReadPoint,
+                Key::Tag(_) => Kind::ReadTag,
+            },
         }
     }
 

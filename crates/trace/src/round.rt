@@ -19,6 +19,7 @@ pub struct ReadBack<'b> {
 
 // Writes the record over the buffer from `place` on, and answers what the reader finds there. The
 // buffer is handed back for reading, also where the record does not fit.
+#[tactic(auto, using(crate::proofs::Trips::read_back))]
 pub fn write_and_read<'b>(record: &Record, buffer: &'b mut [u8], place: usize) -> ReadBack<'b>
     ensures answer { shown (result_map entry_of result.found)
         ≡ read_back_answer (content_of «record».now) place buffer.old }
@@ -27,16 +28,17 @@ pub fn write_and_read<'b>(record: &Record, buffer: &'b mut [u8], place: usize) -
     ensures stands { IfOk result.found (λ e. Stands result.buffer.now e) }
 {
     if let Err(refusal) = record.write_to(buffer, place) {
-        let found = Err(refusal);
-        return ReadBack { found, buffer };
+        return ReadBack {
+            found: Err(refusal),
+            buffer,
+        };
     }
-    match entry_at(buffer, place) {
-        Ok(Some(entry)) => {
-            let found = Ok(entry);
-            ReadBack { found, buffer }
-        }
-        Ok(None) => unreachable!(),
-        Err(_) => unreachable!(),
+    let Ok(Some(entry)) = entry_at(buffer, place) else {
+        unreachable!()
+    };
+    ReadBack {
+        found: Ok(entry),
+        buffer,
     }
 }
 

@@ -1,8 +1,9 @@
 use listing::report::{LONGEST, add_listing};
 use std::alloc::{AllocError, Global};
+use std::iter;
 use std::test::Fail;
 use trace::reader::entry_at;
-use trace::records::{KeyField, Record};
+use trace::records::{Key, KeyField, Record};
 use trace::round::{copy_record, write_and_read};
 
 // A put by node 0 at raw 1000: point 7 is set to -9.000.
@@ -30,12 +31,7 @@ fn listing_of(heap: Global, trace: &[u8]) -> Result<String, AllocError> {
 
 // A kind's byte and a body of `len` zero bytes.
 fn record_bytes(heap: Global, kind: u8, len: usize) -> Result<Vec<u8>, AllocError> {
-    let mut bytes = Vec::new(heap);
-    bytes.push(kind)?;
-    for _ in 0..len {
-        bytes.push(0)?;
-    }
-    Ok(bytes)
+    iter::once(kind).chain(iter::repeat_n(0, len)).collect(heap)
 }
 
 #[test]
@@ -44,16 +40,16 @@ fn put_is_written(rt: HostRuntime) -> Result<(), Fail> {
         offset: 0,
         bytes: &[0, 0, 0, 7],
     };
-    let put = Record::PutPoint {
+    let put = Record::Put {
         node: 0,
         raw: 1000,
-        key,
+        key: Key::Point(key),
         value: -9000,
     };
     let mut buffer = [0xaa; 20];
     let behind = put.write_to(&mut buffer, 1)?;
     assert_eq!(rt; behind, 19);
-    assert_eq!(rt; &buffer[1..19], &PUT[0..18]);
+    assert_eq!(rt; &buffer[1..19], PUT.as_slice());
     assert_eq!(rt; buffer[0], 0xaa);
     assert_eq!(rt; buffer[19], 0xaa);
     Ok(())
@@ -62,22 +58,21 @@ fn put_is_written(rt: HostRuntime) -> Result<(), Fail> {
 #[test]
 fn put_is_read(rt: HostRuntime) -> Result<(), Fail> {
     let entry = entry_at(&PUT, 0)?.ok_or("none")?;
-    match entry.record {
-        Record::PutPoint {
-            node,
-            raw,
-            key,
-            value,
-        } => {
-            assert_eq!(rt; node, 0);
-            assert_eq!(rt; raw, 1000);
-            assert_eq!(rt; key.offset, 10);
-            assert_eq!(rt; u32::from_be_bytes(*key.bytes), 7);
-            assert_eq!(rt; value, -9000);
-            Ok(())
-        }
-        _ => Err(Fail::new("another kind")),
-    }
+    let Record::Put {
+        node,
+        raw,
+        key: Key::Point(key),
+        value,
+    } = entry.record
+    else {
+        return Err(Fail::new("another kind"));
+    };
+    assert_eq!(rt; node, 0);
+    assert_eq!(rt; raw, 1000);
+    assert_eq!(rt; key.offset, 10);
+    assert_eq!(rt; u32::from_be_bytes(*key.bytes), 7);
+    assert_eq!(rt; value, -9000);
+    Ok(())
 }
 
 #[test]
@@ -122,11 +117,9 @@ fn empty(rt: HostRuntime) -> Result<(), Fail> {
 #[test]
 fn every_kind_round(rt: HostRuntime) -> Result<(), Fail> {
     for (kind, len, _) in KINDS {
-        let mut bytes = Vec::new(rt.alloc());
-        bytes.push(kind)?;
-        for i in 1..=len {
-            bytes.push((i % 256) as u8)?;
-        }
+        let bytes = iter::once(kind)
+            .chain((1..=len).map(|i| (i % 256) as u8))
+            .collect::<Vec<u8>>(rt.alloc())?;
         let mut buffer = [0xaa; 40];
         let behind = copy_record(bytes.as_slice(), 0, &mut buffer, 3)?.ok_or("none")?;
         assert_eq!(rt; behind, len.saturating_add(4));
@@ -146,11 +139,9 @@ fn every_kind_round(rt: HostRuntime) -> Result<(), Fail> {
 
 // As many losses as fill a trace of `len` bytes, and the bytes of kind that are left over.
 fn losses(heap: Global, len: usize) -> Result<Vec<u8>, AllocError> {
-    let mut bytes = Vec::new(heap);
-    for i in 0..len {
-        bytes.push(if i % 5 == 0 { 4 } else { 0 })?;
-    }
-    Ok(bytes)
+    (0..len)
+        .map(|i| if i % 5 == 0 { 4 } else { 0 })
+        .collect(heap)
 }
 
 #[test]

@@ -10,13 +10,13 @@ use Rattle.listing.proofs.text.add_line.Goals as goal
 pub returns-in_err-push_str : goal.returns-in_err-push_str
 returns-in_err-push_str c =
     let a = c.in_err-push_str.ensures in
-    gap_failed c.args.pieces.now c.loop-piece.piece-index (Word SetUp) c.loop-piece.invariant.2 c.loop-piece.invariant.1 (omega arith)
+    gap_failed c.args.pieces.now c.loop-piece.piece-index (Word SetUp) c.loop-piece.invariant.way c.loop-piece.invariant.before (omega arith)
     c.from_residual.result (pushes {X = Unit {0}} (Err c.in_err-push_str.field-0.0) a.bytes a.capacity a.succeeds) c.from_residual.ensures.0
 
 pub returns-in_err-add_piece : goal.returns-in_err-add_piece
 returns-in_err-add_piece c =
     let a = c.in_ok-push_str.ensures in
-    let way = gap_added c.args.pieces.now c.loop-piece.piece-index (Word SetUp) c.loop-piece.invariant.2 c.loop-piece.invariant.1 (omega arith)
+    let way = gap_added c.args.pieces.now c.loop-piece.piece-index (Word SetUp) c.loop-piece.invariant.way c.loop-piece.invariant.before (omega arith)
     (pushes {E = Unit {0}} (Ok c.in_ok-push_str.field-0) a.bytes a.capacity a.succeeds) in
     stop _ _ _ way refl c.in_err-add_piece.ensures c.from_residual-in_err-add_piece.ensures.0
 
@@ -24,6 +24,6 @@ pub loop-piece-preserved : goal.loop-piece-preserved
 loop-piece-preserved c =
     let text : shadow (Utf8 (32 ∷ [])) = search rules in
     let a = c.in_ok-push_str.ensures in
-    let way = gap_added c.args.pieces.now c.loop-piece.piece-index (Word SetUp) c.loop-piece.invariant.2 c.loop-piece.invariant.1 (omega arith)
+    let way = gap_added c.args.pieces.now c.loop-piece.piece-index (Word SetUp) c.loop-piece.invariant.way c.loop-piece.invariant.before (omega arith)
     (pushes {E = Unit {0}} (Ok c.in_ok-push_str.field-0) a.bytes a.capacity a.succeeds) in
-    (text, rw add-one refl, step _ _ way refl c.in_ok-add_piece.ensures)
+    record { utf8 = text; before = rw add-one refl; way = step _ _ way refl c.in_ok-add_piece.ensures }

@@ -6,7 +6,8 @@ use Rattle.listing.proofs.Adding.{OnTheWay}
 use Rattle.listing.proofs.text.add_line.Given as goal
 
 abbrev pub invariant-loop-piece : goal.invariant-loop-piece
-invariant-loop-piece l =
-    shadow (Utf8 l.gap)
-    × (l.gap ≡ gap l.piece-index)
-    × OnTheWay l.initial.text l.text (line_text l.pieces) (spaced_text l.piece-index (drop l.piece-index l.pieces) ++ 10 ∷ [])
+invariant-loop-piece l = record {
+  utf8 : shadow (Utf8 l.gap);
+  before : l.gap ≡ gap l.piece-index;
+  way : OnTheWay l.initial.text l.text (line_text l.pieces) (spaced_text l.piece-index (drop l.piece-index l.pieces) ++ 10 ∷ []);
+}

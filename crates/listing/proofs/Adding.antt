@@ -1,5 +1,5 @@
 -- Bytes that are added one after another.
-use Rattle.std.proofs.Common.{◌≡◌, ℕ, ◌+◌, ◌≤◌, true, if◌then◌else◌, List, ◌++◌, length, is_ok, is_err, Ok, Err, string_bytes, string_len, string_capacity, Result, String, append_assoc, arith}
+use Rattle.std.proofs.Common.{◌≡◌, ℕ, ◌+◌, ◌≤◌, true, if◌then◌else◌, List, ◌++◌, length, is_ok, is_err, Ok, Err, string_bytes, string_len, string_capacity, Result, String, append_assoc, refl, sym, arith}
 use Rattle.std.specs.Io.{StartsWith}
 use Rattle.std.proofs.Transfers.{starts_with_of_append, starts_with_trans}
 use Rattle.std.proofs.lemmas.Grind.{common_steps}
@@ -32,3 +32,20 @@ stop {was = was} {mid = mid} {after = after} {all = all} now rest q g e a i =
     let kept = starts_with_trans (string_bytes after) (string_bytes mid) (string_bytes was) a.kept g.kept in
     let part = starts_with_trans (string_bytes was ++ all) first (string_bytes after) (starts_with_of_append (string_bytes was ++ all) first rest whole) a.part in
     grind (arith, common_steps, kept, part)
+
+-- and an addition that adds the rest, where it succeeded or failed
+pub onward : {Z Y F : Type 0} {was mid after : String Z} {all ys : List ℕ} (q : Result Y F) → OnTheWay was mid all ys → Adds mid after ys q → Adds was after all q
+onward {was = was} {mid = mid} {after = after} {all = all} {ys = ys} q g b =
+    let kept = starts_with_trans (string_bytes after) (string_bytes mid) (string_bytes was) b.kept g.kept in
+    grind (arith, common_steps, kept)
+
+-- two additions are one
+pub more : {Z X Y E F : Type 0} {was mid after : String Z} (xs ys : List ℕ) {x : X} {q : Result Y F} → Adds {E = E} was mid xs (Ok x) → Adds mid after ys q → Adds was after (xs ++ ys) q
+more {was = was} xs ys {q = q} a b = onward q (step xs ys (start was (xs ++ ys)) refl a) b
+
+-- and a first one that failed is a part of both
+pub halted : {Z X Y E F : Type 0} {was mid : String Z} (xs ys : List ℕ) {e : E} (q : Result Y F) → Adds {X = X} was mid xs (Err e) → is_err q ≡ true → Adds was mid (xs ++ ys) q
+halted {was = was} xs ys q a i = stop xs ys q (start was (xs ++ ys)) refl a i
+
+pub same_bytes : {Z X E : Type 0} (was after : String Z) (xs ys : List ℕ) (r : Result X E) → xs ≡ ys → Adds was after xs r → Adds was after ys r
+same_bytes was after xs ys r e a = rw (sym e) a

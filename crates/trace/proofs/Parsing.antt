@@ -15,6 +15,11 @@ pub parse_found : (bs : List ℕ) (at : ℕ) (k : Kind) → at < length bs → k
     → finding_at bs at ≡ Ok (Some (at, content_from k (drop (at + 1) bs)))
 parse_found bs at k h e l = rw (lt-leb (length bs) at h, e, le-ltb (length (drop (at + 1) bs)) (body_len_of k) l)
 
+-- the same of a record that was read from there
+pub record_found : (bs : List ℕ) (at : ℕ) (k : Kind) (m : Content) → at < length bs → kind_at (get_or bs at 0) ≡ Some k → body_len_of k ≤ length (drop (at + 1) bs)
+    → m ≡ content_from k (drop (at + 1) bs) → Ok (Some (at, m)) ≡ finding_at bs at
+record_found bs at k m h e l d = rw d (sym (parse_found bs at k h e l))
+
 -- what it takes that a record is found at `at`
 pub record Says (bs : List ℕ) (at i : ℕ) (m : Content) : Type 0 where
   pub before : at < length bs

@@ -5,7 +5,8 @@ ghost use Rattle.refusals.specs.Refusals.{result_map, shown};
 
 use refusals::refusal::Refusal;
 
-// A number of milliseconds, at most a day.
+// A number of milliseconds, at most a day. A message's lead has this range too, and is a type of its own, so that neither
+// stands where the other is wanted; over a shared type both would still need their makers.
 #[derive(Clone, Copy, Debug)]
 pub struct Backstep {
     pub(crate) millis: u32,

@@ -1,4 +1,5 @@
-// Adds words, numbers and lines to a text.
+// Adds words, numbers and lines to a text: by `push_str`, which succeeds wherever the text has room. The
+// library promises that of no formatter.
 ghost use Rattle.listing.specs.Adding.{Adds};
 ghost use Rattle.listing.specs.Lines.{piece_text, line_text};
 

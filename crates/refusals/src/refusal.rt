@@ -27,7 +27,7 @@ pub enum Refusal {
 }
 
 impl Refusal {
-    // The number that the listing prints.
+    // The number that the listing prints: a name says so, where `u8::from` would not.
     pub fn number(self) -> u8
         ensures { result ≡ number_of self }
     {

@@ -8,7 +8,7 @@ use crate::stamp::Stamp;
 use clocks::reading::Reading;
 use refusals::refusal::Refusal;
 
-// A number of milliseconds, at most a day.
+// A number of milliseconds, at most a day: a type of its own, as a backstep is.
 #[derive(Clone, Copy, Debug)]
 pub struct Lead {
     millis: u32,

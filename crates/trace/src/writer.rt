@@ -76,7 +76,8 @@ impl Record<'_> {
     }
 
     // Writes the record over the buffer from `place` on and answers the place behind it. Where the
-    // record does not fit, no byte changes.
+    // record does not fit, no byte changes. The caller lends the whole buffer and names a place in it,
+    // as a reader names its offset, since the promise is about every byte of the buffer.
     #[tactic(auto, unfolding(crate::specs::Writing::overlay))]
     pub fn write_to(&self, buffer: &mut [u8], place: usize) -> Result<usize, Refusal>
         ensures answer { shown result ≡ write_answer (content_of self.now) place buffer.old }

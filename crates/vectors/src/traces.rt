@@ -9,7 +9,7 @@ use trace::round::{copy_record, write_and_read};
 // A put by node 0 at raw 1000: point 7 is set to -9.000.
 const PUT: [u8; 18] = *b"\x05\x00\x00\x00\x00\x00\x00\x00\x03\xe8\x00\x00\x00\x07\xff\xff\xdc\xd8";
 
-// Each kind's byte, the length of its body and its line.
+// Each kind's byte, the length of its body and its line, as the format has them and not by `Kind`.
 const KINDS: [(u8, usize, &str); 9] = [
     (0, 10, "1 setup\nend 1 0\n"),
     (1, 9, "1 note\nend 1 0\n"),

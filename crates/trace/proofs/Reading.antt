@@ -12,7 +12,7 @@ use Rattle.trace.specs.Format.{part, content_from, key_span_of, key_in_trace, ke
 use Rattle.trace.proofs.Numbers.{AllBytes, bytes_unsigned, bytes_signed}
 use Rattle.trace.proofs.Parsing.{kind_decoded}
 
-pub ap2 : {A B C : Type 0} (f : A → B → C) {a a' : A} {b b' : B} → a ≡ a' → b ≡ b' → f a b ≡ f a' b'
+ap2 : {A B C : Type 0} (f : A → B → C) {a a' : A} {b b' : B} → a ≡ a' → b ≡ b' → f a b ≡ f a' b'
 ap2 f p q = cc
 
 -- a part of n bytes from place i on, followed by m more bytes

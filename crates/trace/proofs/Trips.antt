@@ -1,5 +1,5 @@
 -- A record that was written is read back.
-use Rattle.std.proofs.Common.{◌≡◌, ℕ, ◌+◌, ◌^◌, ◌<◌, ◌≤◌, ℤ, w32, FitsSigned, List, ◌∷◌, ◌++◌, length, get_or, take, drop, Some, Ok, Result, sym, refl, ap, ◌∙◌, subst, append_assoc, add-zero, arith, length-append, take_at, drop_at, drop-drop}
+use Rattle.std.proofs.Common.{◌≡◌, ℕ, ◌+◌, ◌^◌, ◌<◌, ◌≤◌, ℤ, w32, FitsSigned, List, ◌∷◌, ◌++◌, length, get_or, take, drop, Some, Ok, Result, sym, refl, ap, ◌∙◌, subst, append_assoc, add-zero, zero-add, arith, length-append, take_at, drop_at, drop-drop}
 use lib.Seq.{drop-append-add}
 use Rattle.std.proofs.lemmas.List.{get_or-append-add, length-take-le}
 use Rattle.std.proofs.lemmas.Bool.Decides.{nat_tests}
@@ -13,7 +13,6 @@ use Rattle.trace.specs.Format.{part, content_from, finding_at}
 use Rattle.trace.specs.Writing.{overlay, write_answer, buffer_after_write, read_back_answer}
 use Rattle.trace.proofs.Numbers.{unsigned_bytes, signed_bytes}
 use Rattle.trace.proofs.Parsing.{parse_found}
-use Rattle.trace.proofs.Reading.{ap2}
 
 -- a key of n bytes, and what follows it
 key_part : (n : ℕ) (t u post : List ℕ) → length t ≡ n → take n ((t ++ u) ++ post) ≡ t
@@ -28,43 +27,37 @@ decode_put : (put : ℕ → ℕ → List ℕ → ℤ → Content) (w n raw : ℕ
 decode_put put w n raw t v post r l f =
     let bs = n ∷ (bytes_of 8 raw ++ (t ++ signed_bytes_of v) ++ post) in
     let long : 9 + w + 4 ≤ length bs = omega (arith, length-append (t ++ signed_bytes_of v) post, length-append t (signed_bytes_of v), l) in
-    let e0 : unsigned_at 1 0 bs ≡ n = omega arith in
+    let stamp : unsigned_at 8 1 bs ≡ raw = unsigned_bytes 8 raw 1 bs r (omega arith) refl in
     let rest : drop (9 + w) bs ≡ signed_bytes_of v ++ post = sym (drop-drop w 9 bs) ∙ key_rest w t (signed_bytes_of v) post l in
-    ap2 (λ (x : ℕ) (y : ℕ). put x y (part w 9 bs) (signed_at (9 + w) bs)) e0 (unsigned_bytes 8 raw 1 bs r (omega arith) refl)
-    ∙ ap2 (put n raw) (key_part w t (signed_bytes_of v) post l) (signed_bytes v (9 + w) bs f long (ap (take 4) rest))
+    let value : signed_at (9 + w) bs ≡ v = signed_bytes v (9 + w) bs f long (ap (take 4) rest) in
+    rw (stamp, key_part w t (signed_bytes_of v) post l, value, zero-add n)
 
 -- the body of a record, whatever follows it, is decoded to that record
 decode_body : (m : Content) (post : List ℕ) → IsInRange m → content_from (kind_of m) (body_of m ++ post) ≡ m
 decode_body (set_up n k l b) post s =
     let bs = body_of (set_up n k l b) ++ post in
-    let e0 : unsigned_at 1 0 bs ≡ n = omega arith in
-    let e1 : unsigned_at 1 1 bs ≡ k = omega arith in
-    ap2 (λ (x : ℕ) (y : ℕ). set_up x y (unsigned_at 4 2 bs) (unsigned_at 4 6 bs)) e0 e1
-    ∙ ap2 (set_up n k) (unsigned_bytes 4 l 2 bs s.2 (omega arith) refl) (unsigned_bytes 4 b 6 bs s.3 (omega arith) refl)
+    let lead : unsigned_at 4 2 bs ≡ l = unsigned_bytes 4 l 2 bs s.2 (omega arith) refl in
+    let backstep : unsigned_at 4 6 bs ≡ b = unsigned_bytes 4 b 6 bs s.3 (omega arith) refl in
+    rw (lead, backstep, zero-add n, zero-add k)
 decode_body (note n raw) post s =
     let bs = body_of (note n raw) ++ post in
-    let e0 : unsigned_at 1 0 bs ≡ n = omega arith in
-    ap2 note e0 (unsigned_bytes 8 raw 1 bs s.1 (omega arith) refl)
+    let stamp : unsigned_at 8 1 bs ≡ raw = unsigned_bytes 8 raw 1 bs s.1 (omega arith) refl in
+    rw (stamp, zero-add n)
 decode_body (send n raw to m) post s =
     let bs = body_of (send n raw to m) ++ post in
-    let e0 : unsigned_at 1 0 bs ≡ n = omega arith in
-    let e2 : unsigned_at 1 9 bs ≡ to = omega arith in
-    ap2 (λ (x : ℕ) (y : ℕ). send x y (unsigned_at 1 9 bs) (unsigned_at 4 10 bs)) e0 (unsigned_bytes 8 raw 1 bs s.1 (omega arith) refl)
-    ∙ ap2 (send n raw) e2 (unsigned_bytes 4 m 10 bs s.3 (omega arith) refl)
+    let stamp : unsigned_at 8 1 bs ≡ raw = unsigned_bytes 8 raw 1 bs s.1 (omega arith) refl in
+    let message : unsigned_at 4 10 bs ≡ m = unsigned_bytes 4 m 10 bs s.3 (omega arith) refl in
+    rw (stamp, message, zero-add n, zero-add to)
 decode_body (receipt n raw m) post s =
     let bs = body_of (receipt n raw m) ++ post in
-    let e0 : unsigned_at 1 0 bs ≡ n = omega arith in
-    ap2 (λ (x : ℕ) (y : ℕ). receipt x y (unsigned_at 4 9 bs)) e0 (unsigned_bytes 8 raw 1 bs s.1 (omega arith) refl)
-    ∙ ap (receipt n raw) (unsigned_bytes 4 m 9 bs s.2 (omega arith) refl)
+    let stamp : unsigned_at 8 1 bs ≡ raw = unsigned_bytes 8 raw 1 bs s.1 (omega arith) refl in
+    let message : unsigned_at 4 9 bs ≡ m = unsigned_bytes 4 m 9 bs s.2 (omega arith) refl in
+    rw (stamp, message, zero-add n)
 decode_body (loss m) post s = ap loss (unsigned_bytes 4 m 0 (body_of (loss m) ++ post) s (omega arith) refl)
 decode_body (put_point n raw t v) post s = decode_put put_point 4 n raw t v post s.1 s.2 s.3
 decode_body (put_tag n raw t v) post s = decode_put put_tag 16 n raw t v post s.1 s.2 s.3
-decode_body (read_point at t) post s =
-    let bs = body_of (read_point at t) ++ post in
-    ap2 read_point (unsigned_bytes 8 at 0 bs s.0 (omega arith) refl) (take_at t post 4 s.1)
-decode_body (read_tag at t) post s =
-    let bs = body_of (read_tag at t) ++ post in
-    ap2 read_tag (unsigned_bytes 8 at 0 bs s.0 (omega arith) refl) (take_at t post 16 s.1)
+decode_body (read_point at t) post s = rw (unsigned_bytes 8 at 0 (body_of (read_point at t) ++ post) s.0 (omega arith) refl, take_at t post 4 s.1)
+decode_body (read_tag at t) post s = rw (unsigned_bytes 8 at 0 (body_of (read_tag at t) ++ post) s.0 (omega arith) refl, take_at t post 16 s.1)
 
 pub length_body : (m : Content) → IsInRange m → length (body_of m) ≡ body_len_of (kind_of m)
 length_body m s = grind (arith, common_steps)

@@ -4,8 +4,8 @@ ghost use Rattle.trace.specs.Contents.{key_bytes, key_len, content_of, kind_of, 
 
 use crate::kind::Kind;
 
-// A key of N bytes: its place in the trace, and that part of the trace's own bytes. A derived `==` or
-// `Debug` is not proved here, since it asks that N is below 2^63; so what holds a key has neither.
+// A key of N bytes: its place in the trace, and that part of the trace's own bytes.
+// (Tried: a derived `==` or `Debug` is not proved here, as it asks that N bytes are below 2^63.)
 #[derive(Clone, Copy)]
 pub struct KeyField<'a, const N: usize> {
     pub offset: usize,

@@ -19,7 +19,6 @@ pub struct ReadBack<'b> {
 
 // Writes the record over the buffer from `place` on, and answers what the reader finds there. The
 // buffer is handed back for reading, also where the record does not fit.
-#[tactic(auto, using(crate::proofs::Trips::read_back))]
 pub fn write_and_read<'b>(record: &Record, buffer: &'b mut [u8], place: usize) -> ReadBack<'b>
     ensures answer { shown (result_map entry_of result.found)
         ≡ read_back_answer (content_of «record».now) place buffer.old }

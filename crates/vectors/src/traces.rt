@@ -113,7 +113,8 @@ fn empty(rt: HostRuntime) -> Result<(), Fail> {
     Ok(())
 }
 
-// A record of each kind, with a body of the bytes 1, 2, 3 and so on, is copied byte for byte, and read back from the copy.
+// A record of each kind, with a body of the bytes 1, 2, 3 and so on, is copied byte for byte, and
+// read back from the copy.
 #[test]
 fn every_kind_round(rt: HostRuntime) -> Result<(), Fail> {
     for (kind, len, _) in KINDS {

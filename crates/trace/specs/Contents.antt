@@ -2,8 +2,8 @@
 use Rattle.std.specs.Prelude.{ℕ, ◌+◌, List, ◌∷◌, ◌++◌, ℤ}
 use Rattle.trace.specs.declared.kind.Kind.{Kind}
 use Rattle.trace.specs.declared.kind.Kind.TheVariants.{SetUp, Note, Send, Receipt, Loss, PutPoint, PutTag, ReadPoint, ReadTag}
-use Rattle.trace.specs.declared.records.Key.{Key}
-use Rattle.trace.specs.declared.records.Key.TheVariants.{Point, Tag}
+use Rattle.trace.specs.declared.records.KeyBytes.{KeyBytes}
+use Rattle.trace.specs.declared.records.KeyBytes.TheVariants.{Point, Tag}
 use Rattle.trace.specs.declared.records.Record.{Record}
 use Rattle.trace.specs.declared.records.Record.TheVariants as variant
 use Rattle.trace.specs.Numbers.{bytes_of, signed_bytes_of}
@@ -22,14 +22,23 @@ pub data Content : Type 0 where
   read_tag : (at : ℕ) (key : List ℕ) → Content
 
 -- a key's bytes
-abbrev pub key_bytes : Key → List ℕ
-key_bytes (Point field) = field.bytes.now
-key_bytes (Tag field) = field.bytes.now
+abbrev pub key_bytes : KeyBytes → List ℕ
+key_bytes (Point bytes) = bytes.now
+key_bytes (Tag bytes) = bytes.now
 
 -- how many bytes a key has
-abbrev pub key_len : Key → ℕ
-key_len (Point field) = 4
-key_len (Tag field) = 16
+abbrev pub key_len : KeyBytes → ℕ
+key_len (Point bytes) = 4
+key_len (Tag bytes) = 16
+
+-- a put, and a read, by a key of either kind
+abbrev pub put_of : (node raw : ℕ) (key : KeyBytes) (value : ℤ) → Content
+put_of node raw (Point bytes) value = put_point node raw bytes.now value
+put_of node raw (Tag bytes) value = put_tag node raw bytes.now value
+
+abbrev pub read_of : (at : ℕ) (key : KeyBytes) → Content
+read_of at (Point bytes) = read_point at bytes.now
+read_of at (Tag bytes) = read_tag at bytes.now
 
 -- what a record of the code says
 abbrev pub content_of : Record → Content
@@ -38,10 +47,8 @@ content_of (variant.Note node raw) = note node raw
 content_of (variant.Send node raw to message) = send node raw to message
 content_of (variant.Receipt node raw message) = receipt node raw message
 content_of (variant.Loss message) = loss message
-content_of (variant.Put node raw (Point field) value) = put_point node raw field.bytes.now value
-content_of (variant.Put node raw (Tag field) value) = put_tag node raw field.bytes.now value
-content_of (variant.Read at (Point field)) = read_point at field.bytes.now
-content_of (variant.Read at (Tag field)) = read_tag at field.bytes.now
+content_of (variant.Put node raw key value) = put_of node raw key.bytes value
+content_of (variant.Read at key) = read_of at key.bytes
 
 abbrev pub kind_of : Content → Kind
 kind_of (set_up nodes key_kind lead backstep) = SetUp

@@ -5,12 +5,11 @@ use Rattle.trace.specs.declared.kind.Kind.{Kind}
 use Rattle.trace.specs.declared.kind.Kind.TheVariants.{SetUp, Note, Send, Receipt, Loss, PutPoint, PutTag, ReadPoint, ReadTag}
 use Rattle.trace.specs.declared.records.Entry.{Entry}
 use Rattle.trace.specs.declared.records.Key.{Key}
-use Rattle.trace.specs.declared.records.Key.TheVariants.{Point, Tag}
 use Rattle.trace.specs.declared.records.Record.{Record}
 use Rattle.trace.specs.declared.records.Record.TheVariants as variant
 use Rattle.trace.specs.Numbers.{unsigned_at, signed_at}
 use Rattle.trace.specs.Kinds.{kind_at, body_len_of}
-use Rattle.trace.specs.Contents.{Content, set_up, note, send, receipt, loss, put_point, put_tag, read_point, read_tag, content_of, kind_of, size_of, encoding_of}
+use Rattle.trace.specs.Contents.{Content, set_up, note, send, receipt, loss, put_point, put_tag, read_point, read_tag, key_bytes, content_of, kind_of, size_of, encoding_of}
 
 -- the w bytes from place i on
 abbrev pub part : ℕ → ℕ → List ℕ → List ℕ
@@ -64,8 +63,7 @@ entry_of e = (e.offset, content_of e.«record»)
 
 -- a key's place and its bytes
 abbrev pub key_parts : Key → ℕ × List ℕ
-key_parts (Point field) = (field.offset, field.bytes.now)
-key_parts (Tag field) = (field.offset, field.bytes.now)
+key_parts key = (key.offset, key_bytes key.bytes)
 
 -- the place and the bytes of a record's key, if it has one
 abbrev pub key_of : Record → Option (ℕ × List ℕ)

@@ -8,7 +8,7 @@ ghost use Rattle.trace.specs.Contents.{key_len, content_of};
 ghost use Rattle.trace.specs.Format.{part, content_from, finding_at, place_behind, entry_of, key_of, key_in_body, Stands};
 
 use crate::kind::Kind;
-use crate::records::{Entry, Key, KeyField, Record};
+use crate::records::{Entry, Key, KeyBytes, Record};
 use refusals::refusal::Refusal;
 
 // The bytes from a record's body on; the body begins at `start` of its trace.
@@ -28,31 +28,30 @@ impl<'a> Body<'a> {
         bytes[at..].first_chunk().unwrap()
     }
 
-    // The key of N bytes from `at` on.
-    fn key<const N: usize>(self, at: usize) -> KeyField<'a, N>
-        requires whole { at + N ≤ length self.bytes.now }
-        requires place { self.start + at < 2 ^ 64 }
+    // The key that begins at `at` and has these bytes.
+    fn key(self, at: usize, bytes: KeyBytes<'a>) -> Key<'a>
+        requires { self.start + at < 2 ^ 64 }
         ensures offset { result.offset ≡ self.entry.start + at }
-        ensures bytes { result.bytes.now ≡ part N at self.entry.bytes.now }
+        ensures bytes { result.bytes ≡ bytes.entry }
     {
-        KeyField {
+        Key {
             offset: self.start + at,
-            bytes: self.part(at),
+            bytes,
         }
     }
 
     // The put that has this body, and this key at its place 9; the value stands behind the key.
     fn put(self, key: Key<'a>) -> Record<'a>
-        requires { 9 + key_len key + 4 ≤ length self.bytes.now }
+        requires { 9 + key_len key.bytes + 4 ≤ length self.bytes.now }
         ensures { let bytes = self.entry.bytes.now in
-            let value = signed_at (9 + key_len key.entry) bytes in
+            let value = signed_at (9 + key_len key.entry.bytes) bytes in
             result ≡ Record.Put (unsigned_at 1 0 bytes) (unsigned_at 8 1 bytes) key.entry value }
     {
         Record::Put {
             node: self.bytes[0],
             raw: u64::from_be_bytes(*self.part(1)),
             key,
-            value: i32::from_be_bytes(*self.part(9 + key.bytes().len())),
+            value: i32::from_be_bytes(*self.part(9 + key.bytes.as_slice().len())),
         }
     }
 
@@ -88,15 +87,15 @@ impl<'a> Body<'a> {
             Kind::Loss => Record::Loss {
                 message: u32::from_be_bytes(*self.part(0)),
             },
-            Kind::PutPoint => self.put(Key::Point(self.key(9))),
-            Kind::PutTag => self.put(Key::Tag(self.key(9))),
+            Kind::PutPoint => self.put(self.key(9, KeyBytes::Point(self.part(9)))),
+            Kind::PutTag => self.put(self.key(9, KeyBytes::Tag(self.part(9)))),
             Kind::ReadPoint => Record::Read {
                 at: u64::from_be_bytes(*self.part(0)),
-                key: Key::Point(self.key(8)),
+                key: self.key(8, KeyBytes::Point(self.part(8))),
             },
             Kind::ReadTag => Record::Read {
                 at: u64::from_be_bytes(*self.part(0)),
-                key: Key::Tag(self.key(8)),
+                key: self.key(8, KeyBytes::Tag(self.part(8))),
             },
         }
     }

@@ -4,37 +4,35 @@ ghost use Rattle.trace.specs.Contents.{key_bytes, key_len, content_of, kind_of, 
 
 use crate::kind::Kind;
 
-// A key of N bytes: its place in the trace, and that part of the trace's own bytes.
-// (Tried: a derived `==` or `Debug` is not proved here, as it asks that N bytes are below 2^63.)
-#[derive(Clone, Copy)]
-pub struct KeyField<'a, const N: usize> {
-    pub offset: usize,
-    pub bytes: &'a [u8; N],
+// A key's bytes: a point's or a tag's.
+#[derive(Clone, Copy, PartialEq, Eq, Debug)]
+pub enum KeyBytes<'a> {
+    Point(&'a [u8; 4]),
+    Tag(&'a [u8; 16]),
 }
 
-// The key of a put or a read: a point's or a tag's.
-#[derive(Clone, Copy)]
-pub enum Key<'a> {
-    Point(KeyField<'a, 4>),
-    Tag(KeyField<'a, 16>),
-}
-
-impl<'a> Key<'a> {
-    // The key's bytes.
-    pub fn bytes(&self) -> &'a [u8]
-        ensures bytes { result.now ≡ key_bytes self.now }
-        ensures len { length result.now ≡ key_len self.now }
+impl<'a> KeyBytes<'a> {
+    pub fn as_slice(self) -> &'a [u8]
+        ensures bytes { result.now ≡ key_bytes self.entry }
+        ensures len { length result.now ≡ key_len self.entry }
     {
-        match *self {
-            Key::Point(KeyField { bytes, .. }) => bytes,
-            Key::Tag(KeyField { bytes, .. }) => bytes,
+        match self {
+            KeyBytes::Point(bytes) => bytes,
+            KeyBytes::Tag(bytes) => bytes,
         }
     }
 }
 
+// The key of a put or a read: its place in the trace, and that part of the trace's own bytes.
+#[derive(Clone, Copy, PartialEq, Eq, Debug)]
+pub struct Key<'a> {
+    pub offset: usize,
+    pub bytes: KeyBytes<'a>,
+}
+
 // What one record says. A raw number is a node's own count of time, and `at` the stamp that a read
 // asks about.
-#[derive(Clone, Copy)]
+#[derive(Clone, Copy, PartialEq, Eq, Debug)]
 pub enum Record<'a> {
     // How many nodes there are, their key kind (0 for points, 1 for tags), how far a message's time
     // may lead the reading of the node that receives it, and the largest step back of a clock; both
@@ -86,13 +84,13 @@ impl Record<'_> {
             Record::Send { .. } => Kind::Send,
             Record::Receipt { .. } => Kind::Receipt,
             Record::Loss { .. } => Kind::Loss,
-            Record::Put { key, .. } => match key {
-                Key::Point(_) => Kind::PutPoint,
-                Key::Tag(_) => Kind::PutTag,
+            Record::Put { key, .. } => match key.bytes {
+                KeyBytes::Point(_) => Kind::PutPoint,
+                KeyBytes::Tag(_) => Kind::PutTag,
             },
-            Record::Read { key, .. } => match key {
-                Key::Point(_) => Kind::ReadPoint,
-                Key::Tag(_) => Kind::ReadTag,
+            Record::Read { key, .. } => match key.bytes {
+                KeyBytes::Point(_) => Kind::ReadPoint,
+                KeyBytes::Tag(_) => Kind::ReadTag,
             },
         }
     }
@@ -106,7 +104,7 @@ impl Record<'_> {
 }
 
 // A record and its place in the trace.
-#[derive(Clone, Copy)]
+#[derive(Clone, Copy, PartialEq, Eq, Debug)]
 pub struct Entry<'a> {
     pub offset: usize,
     pub record: Record<'a>,

@@ -68,10 +68,10 @@ impl Record<'_> {
             } => joined(&[
                 &[kind, *node],
                 &raw.to_be_bytes(),
-                key.bytes(),
+                key.bytes.as_slice(),
                 &value.to_be_bytes(),
             ]),
-            Record::Read { at, key } => joined(&[&[kind], &at.to_be_bytes(), key.bytes()]),
+            Record::Read { at, key } => joined(&[&[kind], &at.to_be_bytes(), key.bytes.as_slice()]),
         }
     }
 

@@ -3,7 +3,7 @@ use std::alloc::{AllocError, Global};
 use std::iter;
 use std::test::Fail;
 use trace::reader::entry_at;
-use trace::records::{Key, KeyField, Record};
+use trace::records::{Key, KeyBytes, Record};
 use trace::round::{copy_record, write_and_read};
 
 // A put by node 0 at raw 1000: point 7 is set to -9.000.
@@ -36,14 +36,14 @@ fn record_bytes(heap: Global, kind: u8, len: usize) -> Result<Vec<u8>, AllocErro
 
 #[test]
 fn put_is_written(rt: HostRuntime) -> Result<(), Fail> {
-    let key = KeyField {
+    let key = Key {
         offset: 0,
-        bytes: &[0, 0, 0, 7],
+        bytes: KeyBytes::Point(&[0, 0, 0, 7]),
     };
     let put = Record::Put {
         node: 0,
         raw: 1000,
-        key: Key::Point(key),
+        key,
         value: -9000,
     };
     let mut buffer = [0xaa; 20];
@@ -61,7 +61,10 @@ fn put_is_read(rt: HostRuntime) -> Result<(), Fail> {
     let Record::Put {
         node,
         raw,
-        key: Key::Point(key),
+        key: Key {
+            offset,
+            bytes: KeyBytes::Point(point),
+        },
         value,
     } = entry.record
     else {
@@ -69,8 +72,8 @@ fn put_is_read(rt: HostRuntime) -> Result<(), Fail> {
     };
     assert_eq!(rt; node, 0);
     assert_eq!(rt; raw, 1000);
-    assert_eq!(rt; key.offset, 10);
-    assert_eq!(rt; u32::from_be_bytes(*key.bytes), 7);
+    assert_eq!(rt; offset, 10);
+    assert_eq!(rt; u32::from_be_bytes(*point), 7);
     assert_eq!(rt; value, -9000);
     Ok(())
 }

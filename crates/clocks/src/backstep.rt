@@ -3,6 +3,7 @@ ghost use Rattle.std.specs.Prelude.{◌≡◌, ◌≤◌};
 ghost use Rattle.clocks.specs.Limits.{day_millis};
 ghost use Rattle.refusals.specs.Refusals.{result_map, shown};
 
+use crate::day::DAY_MILLIS;
 use refusals::refusal::Refusal;
 
 // A number of milliseconds, at most a day. A message's lead has this range too, and is a type of its own, so that neither
@@ -16,8 +17,7 @@ pub struct Backstep {
 impl Backstep {
     ghost use Rattle.clocks.specs.Settings.{backstep_of, backstep_setting};
 
-    // A day, in milliseconds.
-    pub const MAX: u32 = 86_400_000;
+    pub const MAX: u32 = DAY_MILLIS;
 
     // Refused with 4 above a day.
     pub fn new(millis: u32) -> Result<Backstep, Refusal>

@@ -17,8 +17,8 @@ pub trait ClockBank {
     // For each node its high, its backstep and its answers.
     ghost meaning: { Self → Meaning };
 
-    // What a take that answers so does to the bank beside that: what it keeps, and what became of a bank below.
-    ghost also: { Sample → Result ℕ ℕ → Self → Self → Type 0 } = { λ _ _ _ _. Unit {0} };
+    // What a take that answers so does beside the meaning: what it keeps, and what became of a bank below.
+    ghost beside: { Sample → Result ℕ ℕ → Self → Self → Type 0 } = { λ _ _ _ _. Unit {0} };
 
     // The node's reading at this raw number: refused with 7 for a node above 15, else a reading, 8 or 9.
     fn look(&self, sample: Sample) -> Result<Reading, Refusal>
@@ -28,7 +28,7 @@ pub trait ClockBank {
     fn take(&mut self, sample: Sample) -> Result<Reading, Refusal>
         ensures answer { shown (result_map millis_of result) ≡ look_answer (meaning self.old) sample.node sample.raw.0 }
         ensures change { Taken (shown (result_map millis_of result)) sample.node (meaning self.old) (meaning self.new) }
-        ensures also { also sample (shown (result_map millis_of result)) self.old self.new };
+        ensures beside { beside sample (shown (result_map millis_of result)) self.old self.new };
 
     // No reading that is answered is below the high less the backstep.
     ghost lawful: { (bank : Self) → IsLawful (meaning bank) };

@@ -3,6 +3,7 @@
 
 pub mod backstep;
 pub mod bank;
+pub mod day;
 mod highs;
 pub mod never_backwards;
 pub mod offset;

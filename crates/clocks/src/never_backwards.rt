@@ -1,9 +1,8 @@
 // The never-backwards layer: answers the larger of the reading below and its own high.
 ghost use Rattle.std.specs.Prelude.{◌≡◌};
 ghost use Rattle.clocks.specs.Bank.{TakenBelow};
+ghost use Rattle.clocks.specs.Highs.{high_limited, highs_of};
 ghost use Rattle.clocks.specs.NeverBackwards.{bank_below, fresh_rising, rising_meaning};
-ghost use Rattle.clocks.specs.Highs.{highs_of};
-ghost use Rattle.clocks.specs.Highs.{high_limited};
 ghost use Rattle.std.proofs.Common.{rules};
 
 use crate::bank::ClockBank;
@@ -36,7 +35,7 @@ impl<B: ClockBank> ClockBank for NeverBackwards<B> {
     ghost meaning = { λ s. rising_meaning (highs_of s.highs) (B.meaning s.below) };
 
     // The bank below is taken from as well.
-    ghost also = { λ sample answer old new.
+    ghost beside = { λ sample answer old new.
         TakenBelow answer sample.node sample.raw.0 (B.meaning (bank_below old)) (B.meaning (bank_below new)) };
 
     ghost lawful = { Prim.search (rules, high_limited) };

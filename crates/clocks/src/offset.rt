@@ -2,6 +2,7 @@
 ghost use Rattle.std.specs.Prelude.{◌≡◌, pos, negsuc, ◌≤ℤ◌};
 ghost use Rattle.refusals.specs.Refusals.{result_map, shown};
 
+use crate::day::DAY_MILLIS;
 use refusals::refusal::Refusal;
 
 // A signed number of milliseconds, at most a day either way.
@@ -15,8 +16,7 @@ pub struct Offset {
 impl Offset {
     ghost use Rattle.clocks.specs.Settings.{offset_of, offset_setting};
 
-    // A day, in milliseconds.
-    pub const MAX: i64 = 86_400_000;
+    pub const MAX: i64 = DAY_MILLIS as i64;
 
     // Refused with 4 beyond a day either way.
     pub fn new(millis: i64) -> Result<Offset, Refusal>

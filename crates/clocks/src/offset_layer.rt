@@ -30,7 +30,7 @@ impl<B: ClockBank> ClockBank for OffsetLayer<B> {
     ghost meaning = { λ s. offset_meaning s.offsets (B.meaning s.below) };
 
     // The bank below is taken from where this layer answers a reading, and the offsets stay.
-    ghost also = { λ sample answer old new.
+    ghost beside = { λ sample answer old new.
         TakenBelow answer sample.node sample.raw.0 (B.meaning (bank_below old)) (B.meaning (bank_below new))
         × (offsets_of new ≡ offsets_of old) };
 

@@ -1,7 +1,7 @@
 // Tick counters: each node has a base and a step.
 ghost use Rattle.std.specs.Prelude.{◌≡◌};
-ghost use Rattle.clocks.specs.TickCounters.{fresh_ticks, tick_meaning, ticks_of};
 ghost use Rattle.clocks.specs.Highs.{highs_of};
+ghost use Rattle.clocks.specs.TickCounters.{fresh_ticks, tick_meaning, ticks_of};
 ghost use Rattle.std.proofs.Common.{rules};
 
 use crate::bank::{ClockBank, NODES};
@@ -34,7 +34,7 @@ impl ClockBank for TickCounters {
     ghost meaning = { λ s. tick_meaning s.ticks (highs_of s.highs) };
 
     // The settings stay.
-    ghost also = { λ _ _ old new. ticks_of new ≡ ticks_of old };
+    ghost beside = { λ _ _ old new. ticks_of new ≡ ticks_of old };
 
     ghost lawful = { Prim.search rules };
 
@@ -48,6 +48,7 @@ impl ClockBank for TickCounters {
         Ok(reading)
     }
 
+    // As trace clocks do. One body for both would be a method of the trait, over a raise that anybody could call.
     fn take(&mut self, sample: Sample) -> Result<Reading, Refusal> {
         let reading = self.look(sample)?;
         self.highs.raise(sample.node, reading);

@@ -1,8 +1,8 @@
 // Trace clocks: the raw number is the reading.
 ghost use Rattle.std.specs.Prelude.{◌≡◌};
+ghost use Rattle.clocks.specs.Highs.{highs_of};
 ghost use Rattle.clocks.specs.Settings.{backstep_of};
 ghost use Rattle.clocks.specs.TraceClocks.{fresh_trace, trace_meaning};
-ghost use Rattle.clocks.specs.Highs.{highs_of};
 ghost use Rattle.std.proofs.Common.{rules};
 
 use crate::backstep::Backstep;

@@ -1,3 +1,4 @@
 mod Adding
 mod Spacing
 mod Progress
+mod Splitting

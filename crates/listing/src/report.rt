@@ -64,6 +64,7 @@ fn add_records(text: &mut String, trace: &[u8]) -> Result<u64, AllocError>
 
 // Adds the whole listing of a trace to the text. The only failure is want of memory; the text has
 // then gained at most a first part of it.
+#[tactic(auto, using(crate::proofs::Splitting::bytes_split))]
 pub fn add_listing(text: &mut String, trace: &[u8]) -> Result<(), AllocError>
     ensures text { Adds text.old text.new (text_of trace.now) result }
     ensures records { SplitsOneWay trace.now }

@@ -27,7 +27,7 @@ pub enum Refusal {
 }
 
 impl Refusal {
-    // The number that the listing prints: a name says so, where `u8::from` would not.
+    // The number that the listing prints. By a name, since `u64::from(u8::from(refusal))` in a line would say less.
     pub fn number(self) -> u8
         ensures { result ≡ number_of self }
     {

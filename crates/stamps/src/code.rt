@@ -1,5 +1,5 @@
-// Stamps to codes and back. By `code` and `from_code`, as a `char` does it: a code that has no stamp is no
-// refusal, for which `TryFrom` would want an error.
+// Stamps to codes and back. `code` says what the number is. `from_code` answers none, as `char::from_u32` does: a code
+// that has no stamp is no refusal, and `TryFrom` would want an error for it.
 ghost use Rattle.std.specs.Prelude.{◌≡◌, ◌==◌, IfSome, Some};
 ghost use Rattle.std.specs.Option.{option_map};
 ghost use Rattle.std.specs.Ordering.{nat_cmp};

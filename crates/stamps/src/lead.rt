@@ -5,6 +5,7 @@ ghost use Rattle.clocks.specs.Reading.{millis_of};
 ghost use Rattle.refusals.specs.Refusals.{result_map, shown};
 
 use crate::stamp::Stamp;
+use clocks::day::DAY_MILLIS;
 use clocks::reading::Reading;
 use refusals::refusal::Refusal;
 
@@ -19,8 +20,7 @@ impl Lead {
     ghost use Rattle.stamps.specs.Lead.{is_too_far_ahead, lead_of, lead_setting};
     ghost use Rattle.stamps.specs.Stamp.{stamp_of};
 
-    // A day, in milliseconds.
-    pub const MAX: u32 = 86_400_000;
+    pub const MAX: u32 = DAY_MILLIS;
 
     // Refused with 4 above a day.
     pub fn new(millis: u32) -> Result<Lead, Refusal>

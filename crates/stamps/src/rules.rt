@@ -1,4 +1,5 @@
-// The stamp rules of a hybrid logical clock.
+// The stamp rules of a hybrid logical clock. A node's last stamp, a message's stamp and a reading come from three places, and
+// are three parameters.
 ghost use Rattle.std.specs.Prelude.{◌≡◌};
 ghost use Rattle.clocks.specs.Reading.{millis_of};
 ghost use Rattle.refusals.specs.Refusals.{result_map, shown};
@@ -12,7 +13,8 @@ use crate::stamped::Stamped;
 use clocks::reading::Reading;
 use refusals::refusal::Refusal;
 
-// A note, send or put of a node whose last stamp is `last`: refused with 10 where the counter would be 65536.
+// An event that comes behind the stamp `last`, as a note, send or put does behind its node's last one: refused with 10 where
+// the counter would be 65536.
 pub fn stamp_own(last: Stamp, reading: Reading) -> Result<Stamped, Refusal>
     ensures { shown (result_map stamped_numbers result) ≡ own_answer (stamp_of last) (millis_of reading) }
 {

@@ -16,6 +16,7 @@ use refusals::refusal::Refusal;
 struct Body<'a> {
     bytes: &'a [u8],
     start: usize,
+    ghost within: { start + length bytes.now < 2 ^ 64 },
 }
 
 impl<'a> Body<'a> {
@@ -24,13 +25,12 @@ impl<'a> Body<'a> {
         requires { at + N ≤ length self.bytes.now }
         ensures { result.now ≡ part N at self.entry.bytes.now }
     {
-        let bytes = self.bytes;
-        bytes[at..].first_chunk().unwrap()
+        self.bytes[at..].first_chunk().unwrap()
     }
 
     // The key that begins at `at` and has these bytes.
     fn key(self, at: usize, bytes: KeyBytes<'a>) -> Key<'a>
-        requires { self.start + at < 2 ^ 64 }
+        requires { at ≤ length self.bytes.now }
         ensures offset { result.offset ≡ self.entry.start + at }
         ensures bytes { result.bytes ≡ bytes.entry }
     {
@@ -55,10 +55,9 @@ impl<'a> Body<'a> {
         }
     }
 
-    // The record of this kind that has this body.
+    // The record of this kind that has this body: each field at its place in it.
     fn decoded(self, kind: Kind) -> Record<'a>
-        requires whole { body_len_of kind ≤ length self.bytes.now }
-        requires places { self.start + length self.bytes.now < 2 ^ 64 }
+        requires { body_len_of kind ≤ length self.bytes.now }
         ensures content { content_of result ≡ content_from kind self.entry.bytes.now }
         ensures key { key_of result ≡ key_in_body kind self.entry.start self.entry.bytes.now }
     {
@@ -119,7 +118,7 @@ pub fn entry_at<'a>(trace: &'a [u8], offset: usize) -> Result<Option<Entry<'a>>,
     Ok(Some(Entry { offset, record }))
 }
 
-// A place in a trace, which moves over one record after another.
+// A trace and a place in it, which moves over one record after another.
 #[derive(Drop)]
 pub struct Reader<'a> {
     trace: &'a [u8],

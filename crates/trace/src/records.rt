@@ -30,8 +30,8 @@ pub struct Key<'a> {
     pub bytes: KeyBytes<'a>,
 }
 
-// What one record says. A raw number is a node's own count of time, and `at` the stamp that a read
-// asks about.
+// What one record says, field by field as the format lists them. A raw number is a node's own count of
+// time, and `at` the stamp that a read asks about.
 #[derive(Clone, Copy, PartialEq, Eq, Debug)]
 pub enum Record<'a> {
     // How many nodes there are, their key kind (0 for points, 1 for tags), how far a message's time

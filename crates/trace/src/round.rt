@@ -1,5 +1,5 @@
 // The round trips: a record that was written reads back as it was, and one that was read is written
-// as it stood.
+// as it stood. Buffers, traces and the places in them are the caller's, as for the writer.
 ghost use Rattle.std.specs.Prelude.{◌≡◌, IfOk};
 ghost use Rattle.refusals.specs.Refusals.{shown, result_map};
 ghost use Rattle.trace.specs.Contents.{content_of};

@@ -10,11 +10,11 @@ use arrayvec::ArrayVec;
 use refusals::refusal::Refusal;
 
 // The size of the longest record, a put by a tag.
-const LONGEST: usize = 30;
+const LONGEST_RECORD: usize = 30;
 
 // The parts one after another.
-fn joined(parts: &[&[u8]]) -> ArrayVec<u8, LONGEST>
-    requires { length (flat_map (λ part. part.now) parts.now) ≤ LONGEST }
+fn joined(parts: &[&[u8]]) -> ArrayVec<u8, LONGEST_RECORD>
+    requires { length (flat_map (λ part. part.now) parts.now) ≤ LONGEST_RECORD }
     ensures { result.items ≡ flat_map (λ part. part.now) parts.now }
 {
     let mut bytes = ArrayVec::new();
@@ -26,7 +26,7 @@ fn joined(parts: &[&[u8]]) -> ArrayVec<u8, LONGEST>
 
 impl Record<'_> {
     // The record's bytes.
-    fn encoded(&self) -> ArrayVec<u8, LONGEST>
+    fn encoded(&self) -> ArrayVec<u8, LONGEST_RECORD>
         ensures bytes { result.items ≡ encoding_of (content_of self.now) }
         ensures ranges { IsInRange (content_of self.now) }
     {
@@ -84,10 +84,10 @@ impl Record<'_> {
         ensures buffer { buffer.new ≡ buffer_after_write (content_of self.now) place buffer.old }
         ensures ranges { OnOk result (IsInRange (content_of self.now)) }
     {
-        if buffer.len() < place || buffer.len() - place < self.size() {
+        let bytes = self.encoded();
+        if buffer.len() < place || buffer.len() - place < bytes.len() {
             return Err(Refusal::NoRoom);
         }
-        let bytes = self.encoded();
         let end = place + bytes.len();
         buffer[place..end].copy_from_slice(bytes.as_slice());
         Ok(end)

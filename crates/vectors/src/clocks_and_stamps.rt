@@ -17,7 +17,7 @@ use stamps::stamped::Stamped;
 use std::alloc::Global;
 use std::test::Fail;
 
-// A reading's milliseconds, or the number of the refusal.
+// A reading's milliseconds, or the number of the refusal: by the rules' numbers, and not by `Refusal`.
 fn millis(given: Result<Reading, Refusal>) -> Result<u64, u8> {
     given
         .map(|reading| reading.millis())
@@ -31,9 +31,9 @@ fn stamped_numbers(given: Result<Stamped, Refusal>) -> Result<(u64, u16, u64), u
         .map_err(|refusal| refusal.number())
 }
 
-// The stamp of a code, or 0.0 if there is none.
-fn stamp_at(code: u64) -> Stamp {
-    Stamp::from_code(code).unwrap_or(Stamp::zero())
+// The stamp of a code that has one.
+fn stamp_at(code: u64) -> Result<Stamp, Fail> {
+    Ok(Stamp::from_code(code).ok_or("no stamp")?)
 }
 
 // A node's raw number.
@@ -154,12 +154,12 @@ fn settings_out_of_range(rt: HostRuntime) {
 fn drift_of_a_message(rt: HostRuntime) -> Result<(), Fail> {
     let mut clocks = TraceClocks::new(Backstep::new(20)?);
     let reading = clocks.take(sample(0, 1000))?;
-    let sent = stamp_at(1501 * 65_536);
+    let sent = stamp_at(1501 * 65_536)?;
     assert_eq!(rt;
         stamped_numbers(receive(Lead::new(500)?, Stamp::zero(), sent, reading)),
         Err(15)
     );
-    let sent = stamp_at(1500 * 65_536);
+    let sent = stamp_at(1500 * 65_536)?;
     let received = receive(Lead::new(500)?, Stamp::zero(), sent, reading)?;
     assert_eq!(rt; stamped_numbers(Ok(received)), Ok((1500, 1, 500)));
     assert_eq!(rt; millis(clocks.look(sample(0, 979))), Err(9));
@@ -174,7 +174,7 @@ fn drift_of_a_message(rt: HostRuntime) -> Result<(), Fail> {
 #[test]
 fn counter_spent(rt: HostRuntime) -> Result<(), Fail> {
     let mut clocks = TraceClocks::new(Backstep::new(0)?);
-    let last = stamp_at(1000 * 65_536 + 65_535);
+    let last = stamp_at(1000 * 65_536 + 65_535)?;
     assert_eq!(rt;
         stamped_numbers(stamp_own(last, clocks.take(sample(0, 1000))?)),
         Err(10)

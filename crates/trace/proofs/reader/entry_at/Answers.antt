@@ -6,7 +6,7 @@ use Rattle.trace.specs.Kinds.{kind_at, body_len_of}
 use Rattle.trace.specs.Contents.{content_of, kind_of}
 use Rattle.trace.specs.Format.{content_from, finding_at, key_in_body, key_in_trace}
 use Rattle.trace.proofs.Numbers.{AllBytes}
-use Rattle.trace.proofs.Parsing.{parse_found, kind_decoded}
+use Rattle.trace.proofs.Parsing.{record_found, kind_decoded}
 use Rattle.trace.proofs.Reading.{own_bytes, key_within}
 use Rattle.trace.proofs.reader.entry_at.Goals as goal
 
@@ -28,7 +28,7 @@ returns c =
     let content : m ≡ content_from k body = c.decoded-record.ensures.content ∙ ap (content_from k) whole in
     let same_kind : k ≡ kind_of m = sym (ap kind_of content ∙ kind_decoded k body) in
     let bytes : AllBytes bs = λ j. (c.type_inv.trace j).fits in
-    let found : Ok (Some (at, m)) ≡ finding_at bs at = rw content (sym (parse_found bs at k before kind enough)) in
+    let found : Ok (Some (at, m)) ≡ finding_at bs at = record_found bs at k m before kind enough content in
     record {
       answer = found;
       stands = record {

@@ -47,6 +47,7 @@ impl ClockBank for TraceClocks {
         Ok(reading)
     }
 
+    // As tick counters do; why there is no body for both stands there.
     fn take(&mut self, sample: Sample) -> Result<Reading, Refusal> {
         let reading = self.look(sample)?;
         self.highs.raise(sample.node, reading);

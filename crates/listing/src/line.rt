@@ -38,6 +38,7 @@ impl From<&Record<'_>> for Word {
 }
 
 impl Word {
+    // By the library's name for it.
     pub fn as_str(self) -> &'static str
         ensures { result.now ≡ word_text self }
     {

@@ -46,7 +46,8 @@ fn add_records(text: &mut String, trace: &[u8]) -> Result<u64, AllocError>
 {
     let mut reader = Reader::new(trace);
     let mut accepted = 0;
-    // A `for` would hold the reader, and the line of a refusal asks it for the place.
+    // A `for` would hold the reader, and the line of a refusal asks it for the place. The count is the
+    // number in a record's line.
     loop {
         match reader.next_entry() {
             Ok(Some(entry)) => {

@@ -4,8 +4,8 @@ ghost use Rattle.stamps.specs.Range.{is_stamp};
 
 use std::fmt;
 
-// A time, which is a reading, and a counter; or 0.0, the last stamp of a node that has none. The rules count on from
-// 0.0 and give it a code, as any other, so it is a stamp and not the want of one.
+// A time, which is a reading, and a counter; or 0.0, the last stamp of a node that has none. The rules take
+// 0.0 as any last stamp and give it a code, so it is a stamp and not the want of one.
 #[derive(Clone, Copy, PartialEq, Eq, PartialOrd, Ord, Debug)]
 pub struct Stamp {
     pub(crate) time: u64,

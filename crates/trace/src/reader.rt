@@ -55,7 +55,8 @@ impl<'a> Body<'a> {
         }
     }
 
-    // The record of this kind that has this body: each field at its place in it.
+    // The record of this kind that has this body: each field at its place in it, as in the
+    // format.
     fn decoded(self, kind: Kind) -> Record<'a>
         requires { body_len_of kind ≤ length self.bytes.now }
         ensures content { content_of result ≡ content_from kind self.entry.bytes.now }
@@ -100,7 +101,8 @@ impl<'a> Body<'a> {
     }
 }
 
-// What stands at `offset` of the trace: a record, nothing at the end, or a refusal.
+// What stands at `offset` of the trace: a record, nothing at the end, or a refusal. It looks at any place;
+// `Reader` has a trace and a place in it that moves.
 pub fn entry_at<'a>(trace: &'a [u8], offset: usize) -> Result<Option<Entry<'a>>, Refusal>
     ensures answer { shown (result_map (option_map entry_of) result) ≡ finding_at trace.now offset }
     ensures stands { IfOk result (λ found. IfSome found (Stands trace.now)) }
@@ -118,7 +120,7 @@ pub fn entry_at<'a>(trace: &'a [u8], offset: usize) -> Result<Option<Entry<'a>>,
     Ok(Some(Entry { offset, record }))
 }
 
-// A trace and a place in it, which moves over one record after another.
+// A trace and a place in it, which moves over one record after another and which it is asked for.
 #[derive(Drop)]
 pub struct Reader<'a> {
     trace: &'a [u8],

@@ -1,0 +1,6 @@
+pub mod Growing
+pub mod Parting
+pub mod Seating
+pub mod Standing
+pub mod Surgery
+pub mod Walking

@@ -1,0 +1,84 @@
+// Ways down the tree, from the root to where they end.
+ghost use Rattle.std.specs.Prelude.{◌≡◌, ◌≤◌, None, length};
+ghost use Rattle.std.specs.List.{filter, last_or};
+ghost use Rattle.store.specs.Keys.{first_key as first_key_of, next_key as next_key_of};
+ghost use Rattle.store.specs.Versions.{IsSorted, is_up_to as is_up_to_of};
+ghost use Rattle.search_tree.specs.Shape.{IsTidy, below, walk};
+
+use keys::kind::KeyKind;
+use store::version::Version;
+
+use crate::Node;
+
+fn is_up_to<K: KeyKind>(version: &Version<K>, key: K, stamp: u64) -> bool
+    ensures { result ≡ is_up_to_of K.cmp key stamp version.now }
+{
+    (version.key, version.stamp) <= (key, stamp)
+}
+
+// The last version not above this key and stamp.
+pub(crate) fn last_up_to<K: KeyKind>(nodes: &[Node<K>], root: Option<u16>, key: K, stamp: u64) -> Option<Version<K>>
+    requires tidy { IsTidy nodes.now root }
+    requires sorted { IsSorted K.cmp (walk (below nodes.now root)) }
+    ensures { result ≡ last_or None (filter (is_up_to_of K.cmp key stamp) (walk (below nodes.now root))) }
+{
+    let mut last = None;
+    let mut link = root;
+    while let Some(place) = link {
+        let node = &nodes[place as usize];
+        if is_up_to(&node.version, key, stamp) {
+            last = Some(node.version);
+            link = node.right;
+        } else {
+            link = node.left;
+        }
+    }
+    last
+}
+
+pub(crate) fn first_key<K: KeyKind>(nodes: &[Node<K>], root: Option<u16>) -> Option<K>
+    requires { IsTidy nodes.now root }
+    ensures { result ≡ first_key_of (walk (below nodes.now root)) }
+{
+    let mut first = None;
+    let mut link = root;
+    while let Some(place) = link {
+        let node = &nodes[place as usize];
+        first = Some(node.version.key);
+        link = node.left;
+    }
+    first
+}
+
+// The first key after this one.
+pub(crate) fn next_key<K: KeyKind>(nodes: &[Node<K>], root: Option<u16>, key: K) -> Option<K>
+    requires tidy { IsTidy nodes.now root }
+    requires sorted { IsSorted K.cmp (walk (below nodes.now root)) }
+    ensures { result ≡ next_key_of K.cmp (walk (below nodes.now root)) key }
+{
+    let mut next = None;
+    let mut link = root;
+    while let Some(place) = link {
+        let node = &nodes[place as usize];
+        if node.version.key > key {
+            next = Some(node.version.key);
+            link = node.left;
+        } else {
+            link = node.right;
+        }
+    }
+    next
+}
+
+// Chains all nodes by their right links, and gives the first.
+pub(crate) fn threaded<K: KeyKind>(nodes: &mut [Node<K>]) -> Option<u16>
+    requires { length nodes.old ≤ 65535 }
+{
+    let mut free = None;
+    for (place, node) in nodes.iter_mut().enumerate() {
+        node.left = None;
+        node.right = free;
+        free = Some(place as u16);
+    }
+    free
+}

@@ -1,3 +1,4 @@
+pub mod Answering
 pub mod Growing
 pub mod Parting
 pub mod Seating

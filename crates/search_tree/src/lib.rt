@@ -13,6 +13,8 @@ use store::listable::Listable;
 use store::version::Version;
 use store::version_store::{MAX_PLACES, VersionStore};
 
+use crate::hanging::Links;
+
 mod descent;
 mod hanging;
 
@@ -80,7 +82,11 @@ impl<'a, K: KeyKind> VersionStore<K> for SearchTree<'a, K> {
     ghost contents = { λ s. s };
 
     fn add(&mut self, version: &Version<K>) -> Result<(), Refusal> {
-        Err(Refusal::StoreFull)
+        let Links { root, free } = hanging::hang(self.nodes, self.root, self.free, version)?;
+        self.root = root;
+        self.free = free;
+        self.len += 1;
+        Ok(())
     }
 
     fn at(&self, key: K, stamp: u64) -> Option<Version<K>> {

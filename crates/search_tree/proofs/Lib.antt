@@ -1,4 +1,5 @@
 pub mod Answering
+pub mod Chaining
 pub mod Growing
 pub mod Parting
 pub mod Seating

@@ -71,3 +71,15 @@ step_down nodes link place node tidy is read =
 
 pub below_none : {K : Type 0} (nodes : List (Node K)) (link : Option ℕ) → link ≡ None → below nodes link ≡ leaf
 below_none nodes link is = ap (below nodes) is ∙ below-link_to nodes leaf tt (omega arith)
+
+pub slice_get-set_same : {X : Type 0} (xs : List X) (i : ℕ) (y : X) → i < length xs → slice_get (set xs i y) i ≡ Some y
+slice_get-set_same [] i y lt = absurd (omega arith)
+slice_get-set_same (x ∷ xs) zero y lt = refl
+slice_get-set_same (x ∷ xs) (suc i) y lt = slice_get-set_same xs i y (omega arith)
+
+pub slice_get-set_other : {X : Type 0} (xs : List X) (i j : ℕ) (y : X) → (j ≡ i → ⊥) → slice_get (set xs i y) j ≡ slice_get xs j
+slice_get-set_other [] i j y other = refl
+slice_get-set_other (x ∷ xs) zero zero y other = absurd (other refl)
+slice_get-set_other (x ∷ xs) zero (suc j) y other = refl
+slice_get-set_other (x ∷ xs) (suc i) zero y other = refl
+slice_get-set_other (x ∷ xs) (suc i) (suc j) y other = slice_get-set_other xs i j y (λ same. other (ap suc same))

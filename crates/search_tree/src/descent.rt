@@ -1,5 +1,5 @@
 // Ways down the tree, from the root to where they end.
-ghost use Rattle.std.specs.Prelude.{◌≡◌, ◌≤◌, None, length};
+ghost use Rattle.std.specs.Prelude.{◌≡◌, None};
 ghost use Rattle.std.specs.List.{filter, last_or};
 ghost use Rattle.store.specs.Keys.{first_key as first_key_of, next_key as next_key_of};
 ghost use Rattle.store.specs.Versions.{IsSorted, is_up_to as is_up_to_of};
@@ -68,17 +68,4 @@ pub(crate) fn next_key<K: KeyKind>(nodes: &[Node<K>], root: Option<u16>, key: K)
         }
     }
     next
-}
-
-// Chains all nodes by their right links, and gives the first.
-pub(crate) fn threaded<K: KeyKind>(nodes: &mut [Node<K>]) -> Option<u16>
-    requires { length nodes.old ≤ 65535 }
-{
-    let mut free = None;
-    for (place, node) in nodes.iter_mut().enumerate() {
-        node.left = None;
-        node.right = free;
-        free = Some(place as u16);
-    }
-    free
 }

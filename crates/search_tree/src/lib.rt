@@ -15,6 +15,7 @@ use store::version_store::{MAX_PLACES, VersionStore};
 
 use crate::hanging::Links;
 
+mod chain;
 mod descent;
 mod hanging;
 
@@ -68,7 +69,7 @@ impl<'a, K: KeyKind> SearchTree<'a, K> {
         if nodes.len() > MAX_PLACES {
             return Err(Refusal::SettingOutOfRange);
         }
-        let free = descent::threaded(nodes);
+        let free = chain::chained(nodes);
         Ok(SearchTree {
             nodes,
             len: 0,

@@ -1,6 +1,5 @@
 -- A chain of the first places.
-use Rattle.std.proofs.Common.{◌≡◌, ℕ, ◌+◌, ◌<◌, ◌≤◌, ◌==◌, List, Option, Some, None, if◌then◌else◌, length, get_or, set, refl, sym, ◌∙◌, ap, subst, arith}
-use Rattle.std.specs.List.{slice_get}
+use Rattle.std.proofs.Common.{◌≡◌, ℕ, ◌+◌, ◌<◌, ◌≤◌, ◌==◌, List, Option, Some, None, if◌then◌else◌, length, set, refl, sym, ◌∙◌, ap, subst, arith}
 use Rattle.std.proofs.lemmas.Bool.Decides.{nat_tests}
 use Rattle.store.specs.declared.version.Version.{Version}
 use Rattle.search_tree.specs.Shape.{IsChain, IsTidy, Shape, Stands, below, fork, leaf, link_to, size, uses}
@@ -37,7 +36,8 @@ chain_more nodes count link v lt is =
       straight = (refl, is.straight);
       all = omega (arith, is.all);
       once = λ j. once_more j count _ (is.once j) (is.first j);
-      first = λ j above. none_above j count _ above (is.first j (omega arith)) }
+      first = λ j above. none_above j count _ above (is.first j (omega arith));
+    }
 
 pub tree_of_chain : {K : Type 0} (nodes : List (Node K)) (free : Option ℕ) → IsChainOf nodes (length nodes) free → IsTree nodes None free 0
 tree_of_chain nodes free is =
@@ -50,4 +50,5 @@ tree_of_chain nodes free is =
       straight = subst IsChain (sym chain_is) is.straight;
       once = λ j. rw (none, chain_is) (omega (arith, is.once j));
       all = rw (none, chain_is) (omega (arith, is.all));
-      counted = rw none }
+      counted = rw none;
+    }

@@ -1,12 +1,11 @@
 -- A shape that stands in the nodes is the one that is found below its link.
-use Rattle.std.proofs.Common.{◌≡◌, ℕ, zero, suc, ◌+◌, ◌<◌, ◌≤◌, List, [], ◌∷◌, length, Option, Some, None, refl, sym, ◌∙◌, ap, subst, arith, get_or, set, ◌≢◌}
+use Rattle.std.proofs.Common.{◌≡◌, ℕ, zero, suc, ◌+◌, ◌<◌, ◌≤◌, List, [], ◌∷◌, length, Option, Some, None, refl, sym, ◌∙◌, ap, subst, arith, get_or, set}
 use Rattle.std.proofs.Common.{◌==◌, if◌then◌else◌}
 use Rattle.std.specs.List.{slice_get}
 use Rattle.std.proofs.lemmas.Bool.Decides.{nat_tests}
 use Rattle.std.proofs.lemmas.Option.{none-some, same_Some, slice_get_read, slice_get_within}
-use Rattle.store.specs.declared.version.Version.{Version}
 use Rattle.search_tree.specs.declared.Node.{Node}
-use Rattle.search_tree.specs.Shape.{IsTidy, Shape, Stands, below, below_within, fork, fork_of, leaf, link_to, size, uses}
+use Rattle.search_tree.specs.Shape.{IsTidy, Shape, Stands, below, below_within, fork, leaf, link_to, size, uses}
 
 found : {K : Type 0} (nodes : List (Node K)) (steps : ℕ) (s : Shape K) → Stands nodes s → size s ≤ steps → below_within steps nodes (link_to s) ≡ s
 found nodes zero leaf st le = refl
@@ -55,7 +54,8 @@ step_at {K} nodes link place node (fork p v l r) is st le to at =
       left = tidy_standing nodes l st.1 (omega arith);
       right = tidy_standing nodes r st.2 (omega arith);
       left_smaller = rw (lt, is) (omega arith);
-      right_smaller = rw (rt, is) (omega arith) } in
+      right_smaller = rw (rt, is) (omega arith);
+    } in
     subst (StepsTo nodes link place) (sym node_is) at_place
 
 within_at : {K : Type 0} (nodes : List (Node K)) (place : ℕ) (s : Shape K) → Stands nodes s → link_to s ≡ Some place → place < length nodes

@@ -2,9 +2,8 @@
 ghost use Rattle.std.specs.Prelude.{◌≤◌, length, None};
 ghost use Rattle.search_tree.specs.Tree.{IsTree};
 
-use keys::kind::KeyKind;
-
 use crate::Node;
+use keys::kind::KeyKind;
 
 // Chains all nodes by their right links, and gives the first.
 pub(crate) fn chained<K: KeyKind>(nodes: &mut [Node<K>]) -> Option<u16>

@@ -5,10 +5,9 @@ ghost use Rattle.store.specs.Keys.{first_key as first_key_of, next_key as next_k
 ghost use Rattle.store.specs.Versions.{IsSorted, is_up_to as is_up_to_of};
 ghost use Rattle.search_tree.specs.Shape.{IsTidy, below, walk};
 
+use crate::Node;
 use keys::kind::KeyKind;
 use store::version::Version;
-
-use crate::Node;
 
 fn is_up_to<K: KeyKind>(version: &Version<K>, key: K, stamp: u64) -> bool
     ensures { result ≡ is_up_to_of K.cmp key stamp version.now }
@@ -17,7 +16,12 @@ fn is_up_to<K: KeyKind>(version: &Version<K>, key: K, stamp: u64) -> bool
 }
 
 // The last version not above this key and stamp.
-pub(crate) fn last_up_to<K: KeyKind>(nodes: &[Node<K>], root: Option<u16>, key: K, stamp: u64) -> Option<Version<K>>
+pub(crate) fn last_up_to<K: KeyKind>(
+    nodes: &[Node<K>],
+    root: Option<u16>,
+    key: K,
+    stamp: u64,
+) -> Option<Version<K>>
     requires tidy { IsTidy nodes.now root }
     requires sorted { IsSorted K.cmp (walk (below nodes.now root)) }
     ensures { result ≡ last_or None (filter (is_up_to_of K.cmp key stamp) (walk (below nodes.now root))) }

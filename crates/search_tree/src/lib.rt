@@ -5,15 +5,13 @@ ghost use Rattle.std.specs.Prelude.{◌≡◌, length, None};
 ghost use Rattle.refusals.specs.Refusals.{shown};
 ghost use Rattle.store.specs.Contents.{made_answer};
 
-use std::marker::Model;
-
+use crate::hanging::Links;
 use keys::kind::KeyKind;
 use refusals::refusal::Refusal;
+use std::marker::Model;
 use store::listable::Listable;
 use store::version::Version;
 use store::version_store::{MAX_PLACES, VersionStore};
-
-use crate::hanging::Links;
 
 mod chain;
 mod descent;

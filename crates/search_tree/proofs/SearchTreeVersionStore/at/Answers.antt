@@ -1,4 +1,4 @@
-use Rattle.std.proofs.Common.{rules, arith, subst}
+use Rattle.std.proofs.Common.{rules, subst}
 use Rattle.store.specs.Contents.{Contents}
 use Rattle.store.specs.Versions.{IsSorted}
 use Rattle.store.proofs.Descent.{newest_is}

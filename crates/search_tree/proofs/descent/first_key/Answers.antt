@@ -1,4 +1,4 @@
-use Rattle.std.proofs.Common.{ap, refl, arith}
+use Rattle.std.proofs.Common.{ap, arith}
 use Rattle.search_tree.specs.Shape.{walk}
 use Rattle.search_tree.proofs.Parting.{first_key_step, or_none}
 use Rattle.search_tree.proofs.Standing.{below_none, step_down, within}
@@ -21,7 +21,7 @@ loop-link-preserved g c =
     let step = step_down _ _ _ _ c.loop-link.invariant.tidy c.in-Some.is c.index-nodes-place.is in
     record {
       tidy = step.left;
-      same = rw (c.loop-link.invariant.same, ap walk step.whole) (first_key_step c.loop-link.first _ _ _)
+      same = rw (c.loop-link.invariant.same, ap walk step.whole) (first_key_step c.loop-link.first _ _ _);
     }
 
 pub returns : goal.returns

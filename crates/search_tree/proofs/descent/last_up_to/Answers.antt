@@ -1,4 +1,4 @@
-use Rattle.std.proofs.Common.{refl, arith, ap, sym}
+use Rattle.std.proofs.Common.{arith, ap, sym}
 use Rattle.search_tree.specs.Shape.{walk}
 use Rattle.search_tree.proofs.Parting.{last_left, last_right}
 use Rattle.search_tree.proofs.Standing.{below_none, step_down, within}
@@ -24,7 +24,7 @@ loop-link-preserved-then-is_up_to g c =
     record {
       tidy = step.right;
       sorted = parts.right;
-      same = rw (c.loop-link.invariant.same, ap walk step.whole) (last_right g.K.Ord.cmp g.met.K.Ord.total c.args.key c.args.stamp c.loop-link.last _ _ _ (sym c.if-is_up_to.ensures))
+      same = rw (c.loop-link.invariant.same, ap walk step.whole) (last_right g.K.Ord.cmp g.met.K.Ord.total c.args.key c.args.stamp c.loop-link.last _ _ _ (sym c.if-is_up_to.ensures));
     }
 
 pub loop-link-preserved : goal.loop-link-preserved
@@ -34,7 +34,7 @@ loop-link-preserved g c =
     record {
       tidy = step.left;
       sorted = parts.left;
-      same = rw (c.loop-link.invariant.same, ap walk step.whole) (last_left g.K.Ord.cmp g.met.K.Ord.total c.args.key c.args.stamp c.loop-link.last _ _ _ parts.after (sym c.if-is_up_to.ensures))
+      same = rw (c.loop-link.invariant.same, ap walk step.whole) (last_left g.K.Ord.cmp g.met.K.Ord.total c.args.key c.args.stamp c.loop-link.last _ _ _ parts.after (sym c.if-is_up_to.ensures));
     }
 
 pub returns : goal.returns

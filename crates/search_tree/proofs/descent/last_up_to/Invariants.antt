@@ -9,8 +9,8 @@ invariant-loop-link g l = record {
   tidy : IsTidy l.nodes l.link;
   sorted : IsSorted g.K.Ord.cmp (walk (below l.nodes l.link));
   same :
-    last_or None (filter (is_up_to g.K.Ord.cmp l.key l.stamp) (walk (below l.nodes l.fn.root)))
-    ≡ last_or l.last (filter (is_up_to g.K.Ord.cmp l.key l.stamp) (walk (below l.nodes l.link)))
+      last_or None (filter (is_up_to g.K.Ord.cmp l.key l.stamp) (walk (below l.nodes l.fn.root)))
+      ≡ last_or l.last (filter (is_up_to g.K.Ord.cmp l.key l.stamp) (walk (below l.nodes l.link)));
 }
 
 abbrev pub decreases-loop-link : goal.decreases-loop-link

@@ -1,4 +1,4 @@
-use Rattle.std.proofs.Common.{refl, ◌≡◌, true, false, ◌∙◌, ap, arith, rules}
+use Rattle.std.proofs.Common.{◌≡◌, true, false, ap, arith, rules}
 use Rattle.store.specs.Keys.{is_after}
 use Rattle.search_tree.specs.Shape.{walk}
 use Rattle.search_tree.proofs.Parting.{next_key_left, next_key_right, or_none}
@@ -30,7 +30,7 @@ loop-link-preserved-then-gt g c =
     record {
       tidy = step.left;
       sorted = parts.left;
-      same = rw (c.loop-link.invariant.same, ap walk step.whole) (next_key_left g.K.Ord.cmp g.met.K.Ord.total c.args.key c.loop-link.next _ _ _ after)
+      same = rw (c.loop-link.invariant.same, ap walk step.whole) (next_key_left g.K.Ord.cmp g.met.K.Ord.total c.args.key c.loop-link.next _ _ _ after);
     }
 
 pub loop-link-preserved : goal.loop-link-preserved
@@ -42,7 +42,7 @@ loop-link-preserved g c =
     record {
       tidy = step.right;
       sorted = parts.right;
-      same = rw (c.loop-link.invariant.same, ap walk step.whole) (next_key_right g.K.Ord.cmp g.met.K.Ord.total c.args.key c.loop-link.next _ _ _ parts.before not_after)
+      same = rw (c.loop-link.invariant.same, ap walk step.whole) (next_key_right g.K.Ord.cmp g.met.K.Ord.total c.args.key c.loop-link.next _ _ _ parts.before not_after);
     }
 
 pub returns : goal.returns

@@ -1,5 +1,5 @@
 -- The keys that a set of versions has.
-use Rattle.std.specs.Prelude.{List, map, Option}
+use Rattle.std.specs.Prelude.{Bool, List, Option}
 use Rattle.std.specs.declared.cmp.Ordering.{Ordering}
 use Rattle.std.specs.Option.{option_map}
 use Rattle.std.specs.Ordering.{is_gt}
@@ -10,6 +10,10 @@ use Rattle.store.specs.declared.version.Version.{Version}
 abbrev pub first_key : {K : Type 0} → List (Version K) → Option K
 first_key versions = option_map (λ v. v.key) (slice_get versions 0)
 
+-- is its key after this one?
+abbrev pub is_after : {K : Type 0} (order : K → K → Ordering) → K → Version K → Bool
+is_after order key v = is_gt (order v.key key)
+
 -- the first after a given one, which need not be there
 abbrev pub next_key : {K : Type 0} (order : K → K → Ordering) → List (Version K) → K → Option K
-next_key order versions key = option_map (λ v. v.key) (find (λ v. is_gt (order v.key key)) versions)
+next_key order versions key = option_map (λ v. v.key) (find (is_after order key) versions)

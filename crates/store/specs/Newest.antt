@@ -10,6 +10,6 @@ module _ {K : Type 0} (order : K → K → Ordering) where
   abbrev pub is_candidate : K → ℕ → Version K → Bool
   is_candidate key stamp v = is_eq (order v.key key) && nat_le v.stamp stamp
 
-  -- the last of these, since versions stand in order of key, stamp and node
+  -- the last of these: versions stand in order of key, stamp and node
   abbrev pub newest : List (Version K) → K → ℕ → Option (Version K)
   newest versions key stamp = last_or None (filter (is_candidate key stamp) versions)

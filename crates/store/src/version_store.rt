@@ -4,10 +4,9 @@ ghost use Rattle.refusals.specs.Refusals.{shown};
 ghost use Rattle.store.specs.Contents.{Contents, IsSound, add_answer, after_add};
 ghost use Rattle.store.specs.Newest.{newest};
 
+use crate::version::Version;
 use keys::kind::KeyKind;
 use refusals::refusal::Refusal;
-
-use crate::version::Version;
 
 // A store in the caller's memory takes so many places at most.
 pub const MAX_PLACES: usize = 65_535;

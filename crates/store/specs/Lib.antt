@@ -1,4 +1,5 @@
 pub mod Contents
 pub mod Keys
 pub mod Newest
+pub mod Page
 pub mod Versions

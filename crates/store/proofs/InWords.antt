@@ -10,7 +10,7 @@ use Rattle.std.proofs.lemmas.Bool.{both_ways, cases_lt, cases_order, le-leb}
 use Rattle.std.proofs.lemmas.Bool.Decides.{nat_tests}
 use Rattle.std.proofs.lemmas.List.Kept.{IsStrictlySortedBy-filter}
 use Rattle.keys.specs.Order.{IsKeyOrder}
-use Rattle.store.specs.Newest.{IsIn, IsNotLater, IsReadAnswer, is_candidate, newest}
+use Rattle.store.specs.Newest.{IsIn, IsNotLater, IsOnlyAnswer, IsReadAnswer, is_candidate, newest}
 use Rattle.store.specs.Versions.{IsSorted, place_cmp}
 use Rattle.store.specs.declared.version.Version.{Version}
 use Rattle.store.proofs.Members.{before_last, from_filter, in_filter, last_in, last_is_in, tied_same}
@@ -80,5 +80,7 @@ module _ {K : Type 0} (order : K → K → Ordering) (total : IsTotalOrder order
       let tie : place_cmp order v w ≡ Equal = tied v w (newest.of_key ∙ sym newest′.of_key) not_later not_earlier in
       ap Some (tied_same (place_cmp order) (place_total total) vs sorted v w newest.there newest′.there tie)
 
-  pub newest_only : (vs : List (Version K)) (key : K) (stamp : ℕ) → IsSorted order vs → (found : Option (Version K)) → IsReadAnswer vs key stamp found → found ≡ newest order vs key stamp
-  newest_only vs key stamp sorted found answers = answers_same vs key stamp sorted found (newest order vs key stamp) answers (newest_answers vs key stamp sorted)
+  pub only_answer : (vs : List (Version K)) (key : K) (stamp : ℕ) → IsSorted order vs → (found : Option (Version K)) → found ≡ newest order vs key stamp → IsOnlyAnswer vs key stamp found
+  only_answer vs key stamp sorted found is =
+      let answers = subst (IsReadAnswer vs key stamp) (sym is) (newest_answers vs key stamp sorted) in
+      record { answers = answers; only = λ other answers′. answers_same vs key stamp sorted other found answers′ answers }

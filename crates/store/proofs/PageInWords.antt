@@ -13,7 +13,7 @@ use Rattle.std.proofs.lemmas.Map.Keys.{Less-from_sorted}
 use Rattle.keys.specs.Order.{IsKeyOrder}
 use Rattle.store.specs.Keys.{keys}
 use Rattle.store.specs.Newest.{IsIn, IsNewest, IsReadAnswer, newest}
-use Rattle.store.specs.Page.{IsPage, page}
+use Rattle.store.specs.Page.{IsOnlyPage, IsPage, page}
 use Rattle.store.specs.Versions.{IsSorted, place_cmp}
 use Rattle.store.specs.declared.version.Version.{Version}
 use Rattle.store.proofs.InWords.{answers_same, newest_answers, some_or_none}
@@ -131,5 +131,8 @@ module _ {K : Type 0} (order : K → K → Ordering) (total : IsTotalOrder order
         subst (λ v. IsIn v other) (only_some found.0 row (answers_same order total law vs row.key stamp sorted (Some found.0) (Some row) newest′ newest)) found.1
 
     -- and nothing else is
-    pub page_only : (rows : List (Version K)) → IsPage order vs stamp rows → rows ≡ page order vs stamp
-    page_only rows is = same_members (λ v w. order v.key w.key) (on_total (λ v. v.key) total) rows (page order vs stamp) is.ascending page_is.ascending (row_in_other rows (page order vs stamp) is page_is) (row_in_other (page order vs stamp) rows page_is is)
+    pub only_page : IsOnlyPage order vs stamp (page order vs stamp)
+    only_page = record {
+      is = page_is;
+      only = λ rows is. same_members (λ v w. order v.key w.key) (on_total (λ v. v.key) total) rows (page order vs stamp) is.ascending page_is.ascending (row_in_other rows (page order vs stamp) is page_is) (row_in_other (page order vs stamp) rows page_is is);
+    }

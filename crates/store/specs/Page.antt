@@ -21,6 +21,11 @@ module _ {K : Type 0} (order : K → K → Ordering) where
     -- each key that has a version at or below the stamp has a row
     pub complete : (v : Version K) → IsIn v versions → v.stamp ≤ stamp → (row : Version K) × IsIn row rows × (row.key ≡ v.key)
 
+  -- the page, and the only list of which the words hold
+  pub record IsOnlyPage (versions : List (Version K)) (stamp : ℕ) (rows : List (Version K)) : Type 0 where
+    pub is : IsPage versions stamp rows
+    pub only : (other : List (Version K)) → IsPage versions stamp other → other ≡ rows
+
 -- how many they are, unless they are more than the places
 abbrev pub count_within : {X : Type 0} → List X → ℕ → Option ℕ
 count_within page places = (if nat_le (length page) places then Some (length page) else None)

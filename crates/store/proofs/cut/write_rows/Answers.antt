@@ -15,6 +15,6 @@ pub loop-next-preserved : goal.loop-next-preserved
 loop-next-preserved g c =
     let done = subst (Written g.K.Ord.cmp (g.S.VersionStore.contents c.args.store.now).versions c.args.stamp c.args.rows.now c.loop-next.rows c.loop-next.count) c.in-Some.is c.loop-next.invariant in
     elim c.match-at.branch [
-      | in-Some-at w ↦ rw (c.next_key-next.ensures, w.rows-is, w.count-is) (row_written g.K.Ord.cmp _ c.args.stamp g.met.K.Ord.total _ _ _ _ done w.in-Some-at.newest (sym c.at.ensures ∙ w.in-Some-at.is) c.requires.room)
-      | in_default-at w ↦ rw (c.next_key-next.ensures, w.rows-is, w.count-is) (none_written g.K.Ord.cmp _ c.args.stamp g.met.K.Ord.total _ _ _ _ done (sym c.at.ensures ∙ w.in_default-at.is))
+      | in-Some-at w ↦ rw (c.next_key-next.ensures, w.rows-is, w.count-is) (row_written g.K.Ord.cmp _ c.args.stamp g.met.K.Ord.total _ _ _ _ done w.in-Some-at.newest (sym c.at.ensures.newest ∙ w.in-Some-at.is) c.requires.room)
+      | in_default-at w ↦ rw (c.next_key-next.ensures, w.rows-is, w.count-is) (none_written g.K.Ord.cmp _ c.args.stamp g.met.K.Ord.total _ _ _ _ done (sym c.at.ensures.newest ∙ w.in_default-at.is))
     ]

@@ -3,9 +3,8 @@ ghost use Rattle.std.specs.Prelude.{◌≡◌};
 ghost use Rattle.store.specs.Contents.{IsSound};
 ghost use Rattle.store.specs.Keys.{first_key, next_key};
 
-use keys::kind::KeyKind;
-
 use crate::version_store::VersionStore;
+use keys::kind::KeyKind;
 
 pub trait Listable<K: KeyKind>: VersionStore<K> {
     fn first_key(&self) -> Option<K>

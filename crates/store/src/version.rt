@@ -2,9 +2,8 @@
 ghost use Rattle.std.specs.Prelude.{◌≡◌};
 ghost use Rattle.store.specs.Versions.{place_cmp};
 
-use std::cmp::Ordering;
-
 use keys::kind::KeyKind;
+use std::cmp::Ordering;
 
 // One setpoint of a key, as a put left it.
 #[derive(Clone, Copy, PartialEq, Eq, Debug)]

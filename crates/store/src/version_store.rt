@@ -2,12 +2,11 @@
 ghost use Rattle.std.specs.Prelude.{◌≡◌, length};
 ghost use Rattle.refusals.specs.Refusals.{shown};
 ghost use Rattle.store.specs.Contents.{Contents, IsSound, add_answer, after_add};
-ghost use Rattle.store.specs.Newest.{newest};
-
-use keys::kind::KeyKind;
-use refusals::refusal::Refusal;
+ghost use Rattle.store.specs.Newest.{IsOnlyAnswer, newest};
 
 use crate::version::Version;
+use keys::kind::KeyKind;
+use refusals::refusal::Refusal;
 
 // A store in the caller's memory takes so many places at most.
 pub const MAX_PLACES: usize = 65_535;
@@ -25,7 +24,8 @@ pub trait VersionStore<K: KeyKind> {
 
     // The version of the key with the largest stamp not above this one, the higher node among equal stamps.
     fn at(&self, key: K, stamp: u64) -> Option<Version<K>>
-        ensures { result ≡ newest K.cmp (contents self.now).versions key stamp };
+        ensures newest { result ≡ newest K.cmp (contents self.now).versions key stamp }
+        ensures in_words { IsOnlyAnswer (contents self.now).versions key stamp result };
 
     // How many versions there are. They stand in order, and are no more than the capacity.
     fn count(&self) -> usize

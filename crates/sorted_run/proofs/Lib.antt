@@ -1,0 +1,3 @@
+mod Gap
+mod Opened
+mod Parts

@@ -38,7 +38,7 @@ module _ {K : Type 0} (order : K → K → Ordering) where
     up_to_before v w before up = grind (arith, nat_tests, total.trans v.key w.key key, total.congr v.key w.key key, alike_right total w.key key v.key)
 
     -- once one is above, all are
-    none_up_to : (v : Version K) (vs : List (Version K)) → is_up_to order key stamp v ≡ false → Leads order v vs → filter (is_up_to order key stamp) vs ≡ []
+    pub none_up_to : (v : Version K) (vs : List (Version K)) → is_up_to order key stamp v ≡ false → Leads order v vs → filter (is_up_to order key stamp) vs ≡ []
     none_up_to v [] above before = refl
     none_up_to v (w ∷ vs) above before = grind (arith, up_to_before v w before.0, none_up_to v vs above before.1)
 

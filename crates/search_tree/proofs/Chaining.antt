@@ -17,9 +17,6 @@ pub record IsChainOf {K : Type 0} (nodes : List (Node K)) (count : ℕ) (link : 
   pub once : (j : ℕ) → uses chain j ≤ 1
   pub first : (j : ℕ) → count ≤ j → uses chain j ≡ 0
 
-pub chain_none : {K : Type 0} (nodes : List (Node K)) → IsChainOf nodes 0 None
-chain_none nodes = record { chain = leaf; linked = refl; stands = tt; straight = tt; all = refl; once = λ j. omega arith; first = λ j above. refl }
-
 once_more : (j count n : ℕ) → n ≤ 1 → (count ≤ j → n ≡ 0) → (if j == count then 1 else 0) + 0 + n ≤ 1
 once_more j count n once first = grind (arith, nat_tests)
 

@@ -6,12 +6,12 @@ use Rattle.search_tree.specs.declared.Node.{Node}
 use Rattle.search_tree.specs.declared.SearchTree.TheInside.{Inside}
 
 -- the versions below the root, in order; all nodes are the capacity
-abbrev pub below_root : {K : Type 0} → List (Node K) → Option ℕ → Contents K
-below_root nodes root = record { versions = walk (below nodes root); capacity = length nodes }
+abbrev pub contents_below : {K : Type 0} → List (Node K) → Option ℕ → Contents K
+contents_below nodes root = record { versions = walk (below nodes root); capacity = length nodes }
 
 -- what the tree means
 abbrev pub contents_of : {K : Type 0} → Inside K → Contents K
-contents_of tree = below_root tree.nodes.now tree.root
+contents_of tree = contents_below tree.nodes.now tree.root
 
 -- the tree below the root and the chain of the free places share out all places
 pub record IsTree {K : Type 0} (nodes : List (Node K)) (root free : Option ℕ) (len : ℕ) : Type 0 where

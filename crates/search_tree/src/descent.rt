@@ -24,7 +24,8 @@ pub(crate) fn last_up_to<K: KeyKind>(
 ) -> Option<Version<K>>
     requires tidy { IsTidy nodes.now root }
     requires sorted { IsSorted K.cmp (walk (below nodes.now root)) }
-    ensures { result ≡ last_or None (filter (is_up_to_of K.cmp key stamp) (walk (below nodes.now root))) }
+    ensures { result ≡ last_or None
+        (filter (is_up_to_of K.cmp key stamp) (walk (below nodes.now root))) }
 {
     let mut last = None;
     let mut link = root;

@@ -110,3 +110,55 @@ impl<'a, K: KeyKind> Listable<K> for SearchTree<'a, K> {
         descent::next_key(self.nodes, self.root, key)
     }
 }
+
+#[cfg(test)]
+mod tests {
+    use super::{Node, SearchTree};
+    use keys::point::Point;
+    use refusals::refusal::Refusal;
+    use store::listable::Listable;
+    use store::version::Version;
+    use store::version_store::VersionStore;
+
+    fn version(point: u32, stamp: u64, node: u8) -> Version<Point> {
+        Version {
+            key: Point(point),
+            stamp,
+            node,
+            value: 500,
+        }
+    }
+
+    #[test]
+    fn answers_what_was_added_out_of_order(rt: HostRuntime) {
+        let mut nodes = [Node::new(version(0, 0, 0)); 7];
+        let mut tree = SearchTree::new(&mut nodes).expect(&rt, "seven places are few enough");
+        assert_eq!(rt; tree.add(&version(7, 20, 1)), Ok(()));
+        assert_eq!(rt; tree.add(&version(3, 30, 2)), Ok(()));
+        assert_eq!(rt; tree.add(&version(7, 10, 4)), Ok(()));
+        assert_eq!(rt; tree.add(&version(7, 20, 0)), Ok(()));
+        assert_eq!(rt; tree.add(&version(9, 5, 3)), Ok(()));
+        assert_eq!(rt; tree.count(), 5);
+        assert_eq!(rt; tree.at(Point(7), 9), None);
+        assert_eq!(rt; tree.at(Point(7), 19), Some(version(7, 10, 4)));
+        assert_eq!(rt; tree.at(Point(7), 20), Some(version(7, 20, 1)));
+        assert_eq!(rt; tree.at(Point(8), 99), None);
+        assert_eq!(rt; tree.first_key(), Some(Point(3)));
+        assert_eq!(rt; tree.next_key(Point(3)), Some(Point(7)));
+        assert_eq!(rt; tree.next_key(Point(8)), Some(Point(9)));
+        assert_eq!(rt; tree.next_key(Point(9)), None);
+    }
+
+    #[test]
+    fn refuses_what_is_there_before_what_does_not_fit(rt: HostRuntime) {
+        let mut nodes = [Node::new(version(0, 0, 0)); 2];
+        let mut tree = SearchTree::new(&mut nodes).expect(&rt, "two places are few enough");
+        assert_eq!(rt; tree.add(&version(7, 20, 1)), Ok(()));
+        assert_eq!(rt; tree.add(&version(7, 20, 0)), Ok(()));
+        assert_eq!(rt; tree.add(&version(7, 20, 1)), Err(Refusal::VersionPresent));
+        assert_eq!(rt; tree.add(&version(7, 30, 1)), Err(Refusal::StoreFull));
+        assert_eq!(rt; tree.count(), 2);
+        assert_eq!(rt; tree.capacity(), 2);
+        assert_eq!(rt; tree.at(Point(7), 30), Some(version(7, 20, 1)));
+    }
+}

@@ -36,8 +36,8 @@ chain_more nodes count link v lt is =
       first = λ j above. none_above j count _ above (is.first j (omega arith));
     }
 
-pub tree_of_chain : {K : Type 0} (nodes : List (Node K)) (free : Option ℕ) → IsChainOf nodes (length nodes) free → IsTree nodes None free 0
-tree_of_chain nodes free is =
+pub tree_of_chain : {K : Type 0} (nodes : List (Node K)) (count : ℕ) (free : Option ℕ) → IsChainOf nodes count free → count ≡ length nodes → IsTree nodes None free 0
+tree_of_chain nodes count free is whole =
     let none = below_none nodes None refl in
     let fits : size is.chain ≤ length nodes = omega (arith, is.all) in
     let chain_is : below nodes free ≡ is.chain = ap (below nodes) (sym is.linked) ∙ below-link_to nodes is.chain is.stands fits in
@@ -47,5 +47,4 @@ tree_of_chain nodes free is =
       straight = subst IsChain (sym chain_is) is.straight;
       once = λ j. rw (none, chain_is) (omega (arith, is.once j));
       all = rw (none, chain_is) (omega (arith, is.all));
-      counted = rw none;
-    }
+      counted = rw none }

@@ -61,6 +61,7 @@ impl<'a, K: KeyKind> Model for SearchTree<'a, K> {
 
 impl<'a, K: KeyKind> SearchTree<'a, K> {
     // An empty tree in these nodes, as many as its capacity: refused with 4 where there are more than 65,535.
+    #[tactic(auto, using(crate::proofs::Answering::sound_made, crate::proofs::Answering::answer_made))]
     pub fn new(nodes: &'a mut [Node<K>]) -> Result<SearchTree<'a, K>, Refusal>
         ensures { shown result ≡ made_answer (length nodes.old) }
     {
@@ -92,6 +93,7 @@ impl<'a, K: KeyKind> VersionStore<K> for SearchTree<'a, K> {
         descent::last_up_to(self.nodes, self.root, key, stamp).filter(|last| last.key == key)
     }
 
+    #[tactic(auto, using(crate::proofs::Walking::length_walk))]
     fn count(&self) -> usize {
         self.len
     }

@@ -9,7 +9,7 @@ use Rattle.std.proofs.lemmas.Cmp.{alike_right}
 use Rattle.std.proofs.lemmas.Bool.Decides.{nat_tests}
 use Rattle.store.specs.Keys.{is_after}
 use Rattle.store.specs.Newest.{is_candidate, newest, only_of}
-use Rattle.store.specs.Versions.{IsSorted, is_up_to, place_cmp}
+use Rattle.store.specs.Versions.{IsSorted, is_up_to, id_cmp}
 use Rattle.store.specs.declared.version.Version.{Version}
 use Rattle.store.proofs.Order.{Leads}
 
@@ -20,7 +20,7 @@ module _ {K : Type 0} (order : K → K → Ordering) where
   Before (Some v) vs = Leads order v vs
 
   -- what is before one of no later key is of no later key
-  pub not_after_before : IsTotalOrder order → (key : K) (v w : Version K) → place_cmp order v w ≡ Less → not (is_after order key w) ≡ true → not (is_after order key v) ≡ true
+  pub not_after_before : IsTotalOrder order → (key : K) (v w : Version K) → id_cmp order v w ≡ Less → not (is_after order key w) ≡ true → not (is_after order key v) ≡ true
   not_after_before total key v w before not_after = grind (arith, nat_tests, total.trans v.key w.key key, total.congr v.key w.key key, alike_right total w.key key v.key)
 
   module _ (total : IsTotalOrder order) (key : K) (stamp : ℕ) where
@@ -28,7 +28,7 @@ module _ {K : Type 0} (order : K → K → Ordering) where
     candidate_is_up_to v above = grind (arith, nat_tests)
 
     -- what is before one that is not above is not above
-    pub up_to_before : (v w : Version K) → place_cmp order v w ≡ Less → is_up_to order key stamp w ≡ true → is_up_to order key stamp v ≡ true
+    pub up_to_before : (v w : Version K) → id_cmp order v w ≡ Less → is_up_to order key stamp w ≡ true → is_up_to order key stamp v ≡ true
     up_to_before v w before up = grind (arith, nat_tests, total.trans v.key w.key key, total.congr v.key w.key key, alike_right total w.key key v.key)
 
     -- once one is above, all are

@@ -10,6 +10,7 @@ use std::cmp::Ordering;
 #[derive(Clone, Copy, PartialEq, Eq, Debug)]
 pub struct Tag {
     bytes: [u8; 16],
+    // To a proof an array is a list.
     ghost sixteen: { length bytes ≡ 16 },
     ghost named: { IsTrue (is_padded_name bytes) },
 }
@@ -29,11 +30,13 @@ impl TryFrom<&[u8; 16]> for Tag {
 
     type Error = Refusal;
 
-    ghost try_from_gives = { λ bytes result. shown (result_map bytes_of result) ≡ tag_answer bytes.now };
+    ghost try_from_gives = { λ bytes result.
+        shown (result_map bytes_of result) ≡ tag_answer bytes.now };
 
     fn try_from(bytes: &[u8; 16]) -> Result<Tag, Refusal> {
         let mut name_len = 0;
         for (place, &byte) in bytes.iter().enumerate() {
+            // The name goes on only if it has reached this place.
             if place == name_len && is_name_char(char::from(byte)) {
                 name_len += 1;
             } else if place == 0 || byte != 0 {
@@ -48,14 +51,15 @@ impl Tag {
     ghost use Rattle.keys.specs.Name.{name_of};
     ghost use Rattle.keys.specs.Tag.{bytes_of};
 
-    // The name and what is behind it.
+    // The name and its padding. They read back as this tag.
     pub fn bytes(&self) -> &[u8; 16]
-        ensures { result.now ≡ bytes_of self.now }
+        ensures bytes { result.now ≡ bytes_of self.now }
+        ensures padded { IsTrue (is_padded_name result.now) }
     {
         &self.bytes
     }
 
-    // The name alone.
+    // The name without its padding.
     pub fn name(&self) -> &[u8]
         ensures { result.now ≡ name_of (bytes_of self.now) }
     {
@@ -110,4 +114,66 @@ impl KeyKind for Tag {
     ghost use Rattle.keys.specs.Laws.{tag_cmp-key_order};
 
     ghost law = { tag_cmp-key_order };
+}
+
+#[cfg(test)]
+mod tests {
+    use super::*;
+
+    // A name with zero bytes behind it.
+    fn padded(name: &str) -> [u8; 16] {
+        let mut bytes = [0; 16];
+        for (place, &byte) in bytes.iter_mut().zip(name.as_bytes()) {
+            *place = byte;
+        }
+        bytes
+    }
+
+    // The tag of these bytes, or the number of the refusal.
+    fn tag(bytes: &[u8; 16]) -> Result<Tag, u8> {
+        Tag::try_from(bytes).map_err(|refusal| refusal.number())
+    }
+
+    #[test]
+    fn names_are_taken(rt: HostRuntime) {
+        for name in ["A", "Z", "0", "9", "-", "PUMP-17", "ABCDEFGHIJKLMNOP"] {
+            let bytes = padded(name);
+            let tag = tag(&bytes).expect(&rt, "a name");
+            assert_eq!(rt; tag.name(), name.as_bytes());
+            assert_eq!(rt; tag.bytes(), &bytes);
+        }
+    }
+
+    #[test]
+    fn others_are_refused(rt: HostRuntime) {
+        for name in ["", "a", "Az", "A B", "A_", "A/", "A:", "A@", "A[", "Ä"] {
+            assert_eq!(rt; tag(&padded(name)), Err(3), "{name}");
+        }
+        assert_eq!(rt; tag(b"A\0B\0\0\0\0\0\0\0\0\0\0\0\0\0"), Err(3));
+        assert_eq!(rt; tag(b"A\0\0\0\0\0\0\0\0\0\0\0\0\0\0B"), Err(3));
+        assert_eq!(rt; tag(b"A\0\0\0\0\0\0\0\0\0\0\0\0\0\0\x01"), Err(3));
+        assert_eq!(rt; tag(b"\0ABCDEFGHIJKLMNO"), Err(3));
+    }
+
+    #[test]
+    fn names_are_in_order(rt: HostRuntime) {
+        let names = [
+            "-",
+            "0",
+            "A",
+            "A-",
+            "A0",
+            "A1",
+            "AA",
+            "ABCDEFGHIJKLMNOP",
+            "B",
+        ];
+        for (place, low) in names.iter().enumerate() {
+            for high in &names[place + 1..] {
+                let low = tag(&padded(low)).expect(&rt, "a name");
+                let high = tag(&padded(high)).expect(&rt, "a name");
+                assert!(rt; low < high, "{low:?} {high:?}");
+            }
+        }
+    }
 }

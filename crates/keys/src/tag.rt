@@ -5,12 +5,13 @@ ghost use Rattle.keys.specs.Name.{is_name_byte, is_padded_name};
 use crate::kind::KeyKind;
 use refusals::refusal::Refusal;
 use std::cmp::Ordering;
+use std::fmt;
 
 // A name of 1 to 16 bytes, with only zero bytes behind it up to the sixteenth.
 #[derive(Clone, Copy, PartialEq, Eq, Debug)]
 pub struct Tag {
     bytes: [u8; 16],
-    // To a proof an array is a list.
+    // To the laws an array is a list of any length.
     ghost sixteen: { length bytes ≡ 16 },
     ghost named: { IsTrue (is_padded_name bytes) },
 }
@@ -76,6 +77,22 @@ impl Tag {
     }
 }
 
+// The name.
+impl fmt::Display for Tag {
+    ghost use Rattle.std.specs.Prelude.{Some};
+    ghost use Rattle.keys.specs.Name.{name_of};
+    ghost use Rattle.keys.specs.Tag.{bytes_of};
+
+    ghost output = { λ tag. Some (name_of (bytes_of tag)) };
+
+    fn fmt<W: fmt::Write>(&self, f: &mut fmt::Formatter<W>) -> fmt::Result {
+        for &byte in self.name() {
+            write!(f, "{}", char::from(byte))?;
+        }
+        Ok(())
+    }
+}
+
 // The bytes compare as the names do, since the zero byte is below every byte of a name.
 impl Ord for Tag {
     ghost use Rattle.std.specs.Prelude.{refl};
@@ -119,6 +136,7 @@ impl KeyKind for Tag {
 #[cfg(test)]
 mod tests {
     use super::*;
+    use std::test::Fail;
 
     // A name with zero bytes behind it.
     fn padded(name: &str) -> [u8; 16] {
@@ -135,13 +153,15 @@ mod tests {
     }
 
     #[test]
-    fn names_are_taken(rt: HostRuntime) {
+    fn names_are_taken(rt: HostRuntime) -> Result<(), Fail> {
         for name in ["A", "Z", "0", "9", "-", "PUMP-17", "ABCDEFGHIJKLMNOP"] {
             let bytes = padded(name);
             let tag = tag(&bytes).expect(&rt, "a name");
             assert_eq!(rt; tag.name(), name.as_bytes());
             assert_eq!(rt; tag.bytes(), &bytes);
+            assert_eq!(rt; format!(in rt.alloc(); "{tag}")?.as_str(), name);
         }
+        Ok(())
     }
 
     #[test]

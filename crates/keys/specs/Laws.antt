@@ -16,7 +16,7 @@ use mathlib.Core.HLevel.{is_prop→PathP}
 use Rattle.keys.specs.declared.tag.Tag.{Tag}
 use Rattle.keys.specs.Name.{is_name_byte, name_of, padding_of, is_blank, is_padded_name}
 
-name_of-cons : (x : ℕ) (xs : List ℕ) → name_of (x ∷ xs) ≡ cond (is_name_byte x) (x ∷ name_of xs) []
+pub name_of-cons : (x : ℕ) (xs : List ℕ) → name_of (x ∷ xs) ≡ cond (is_name_byte x) (x ∷ name_of xs) []
 name_of-cons = take_while-cons is_name_byte
 
 padding_of-cons : (x : ℕ) (xs : List ℕ) → padding_of (x ∷ xs) ≡ cond (is_name_byte x) (padding_of xs) (x ∷ xs)

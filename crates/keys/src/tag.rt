@@ -1,5 +1,5 @@
 // Tags.
-ghost use Rattle.std.specs.Prelude.{◌≡◌, IsTrue, length};
+ghost use Rattle.std.specs.Prelude.{◌≡◌, IsAscii, IsTrue, length};
 ghost use Rattle.keys.specs.Name.{is_name_byte, is_padded_name};
 
 use crate::kind::KeyKind;
@@ -61,8 +61,10 @@ impl Tag {
     }
 
     // The name without its padding.
+    #[tactic(auto, using(crate::proofs::Names::front_is_ascii))]
     pub fn name(&self) -> &[u8]
-        ensures { result.now ≡ name_of (bytes_of self.now) }
+        ensures name { result.now ≡ name_of (bytes_of self.now) }
+        ensures ascii { IsAscii result.now }
     {
         &self.bytes[..self.name_len()]
     }

@@ -22,15 +22,17 @@ name_of-cons = take_while-cons is_name_byte
 padding_of-cons : (x : ℕ) (xs : List ℕ) → padding_of (x ∷ xs) ≡ cond (is_name_byte x) (padding_of xs) (x ∷ xs)
 padding_of-cons x xs = grind (arith, nat_tests, name_of-cons)
 
--- zero bytes compare by their lengths
-blank_cmp : (xs ys : List ℕ) → length xs ≡ length ys → is_blank xs ≡ true → is_blank ys ≡ true → slice_cmp nat_cmp xs ys ≡ Equal
+-- as many zero bytes are the same
+blank_cmp : (xs ys : List ℕ) → length xs ≡ length ys → is_blank xs ≡ true → is_blank ys ≡ true
+    → slice_cmp nat_cmp xs ys ≡ Equal
 blank_cmp [] [] e p q = refl
 blank_cmp [] (y ∷ ys) e p q = absurd (omega arith)
 blank_cmp (x ∷ xs) [] e p q = absurd (omega arith)
 blank_cmp (x ∷ xs) (y ∷ ys) e p q = let h = blank_cmp xs ys in grind (arith, nat_tests)
 
--- the bytes of padded names compare as the names do
-cmp_by_name : (xs ys : List ℕ) → length xs ≡ length ys → is_blank (padding_of xs) ≡ true → is_blank (padding_of ys) ≡ true → slice_cmp nat_cmp xs ys ≡ slice_cmp nat_cmp (name_of xs) (name_of ys)
+-- bytes with blank paddings compare as the names in them do
+cmp_by_name : (xs ys : List ℕ) → length xs ≡ length ys → is_blank (padding_of xs) ≡ true → is_blank (padding_of ys) ≡ true
+    → slice_cmp nat_cmp xs ys ≡ slice_cmp nat_cmp (name_of xs) (name_of ys)
 cmp_by_name [] [] e p q = refl
 cmp_by_name [] (y ∷ ys) e p q = absurd (omega arith)
 cmp_by_name (x ∷ xs) [] e p q = absurd (omega arith)
@@ -38,9 +40,6 @@ cmp_by_name (x ∷ xs) (y ∷ ys) e p q =
     let h = cmp_by_name xs ys in
     let k = blank_cmp xs ys in
     grind (arith, nat_tests, name_of-cons, padding_of-cons)
-
-pub padded_cmp : (xs ys : List ℕ) → length xs ≡ length ys → IsTrue (is_padded_name xs) → IsTrue (is_padded_name ys) → slice_cmp nat_cmp xs ys ≡ slice_cmp nat_cmp (name_of xs) (name_of ys)
-padded_cmp xs ys e p q = cmp_by_name xs ys e (grind (arith, nat_tests)) (grind (arith, nat_tests))
 
 -- tags of the same bytes are the same tag, since each ghost fact has one proof at most
 same_tag : (a b : Tag) → a.bytes ≡ b.bytes → a ≡ b
@@ -50,8 +49,12 @@ same_tag a b e = λ i. record {
   named = is_prop→PathP (λ j. IsTrue (is_padded_name (e j))) (λ j. hlevel props) a.named b.named i;
 }
 
-bytes_cmp : (a b : Tag) → slice_cmp nat_cmp a.bytes b.bytes ≡ tag_cmp a b
-bytes_cmp a b = padded_cmp a.bytes b.bytes (a.sixteen ∙ sym b.sixteen) a.named b.named
+blank_padding : (tag : Tag) → is_blank (padding_of tag.bytes) ≡ true
+blank_padding tag = let padded = tag.named in grind (arith, nat_tests)
+
+-- the bytes of two tags compare as the names do
+pub bytes_cmp : (a b : Tag) → slice_cmp nat_cmp a.bytes b.bytes ≡ tag_cmp a b
+bytes_cmp a b = cmp_by_name a.bytes b.bytes (a.sixteen ∙ sym b.sixteen) (blank_padding a) (blank_padding b)
 
 pub tag_cmp-total : IsTotalOrder tag_cmp
 tag_cmp-total = on_total (λ tag. name_of (bytes_of tag)) nat_list_cmp_total

@@ -3,11 +3,11 @@ use Rattle.std.specs.Prelude.{ℕ, Bool, List, ◌&&◌, ◌||◌, ◌==◌, nat
 use Rattle.std.specs.List.{list_all}
 use Rattle.std.specs.Int.{is_in_range}
 
--- a capital letter A to Z, a digit 0 to 9 or the hyphen
+-- a capital letter A to Z (65 to 90), a digit 0 to 9 (48 to 57) or the hyphen (45)
 abbrev pub is_name_byte : ℕ → Bool
 is_name_byte byte = is_in_range 65 90 byte || (is_in_range 48 57 byte || (byte == 45))
 
--- the name: the longest beginning with only such bytes
+-- the name: the bytes from the first on, up to one that is no such byte
 abbrev pub name_of : List ℕ → List ℕ
 name_of bytes = take_while is_name_byte bytes
 

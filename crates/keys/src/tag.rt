@@ -109,7 +109,7 @@ impl Ord for Tag {
 
     ghost matches_eq = { tag_cmp-ties };
 
-    #[tactic(auto, using(crate::specs::Laws::padded_cmp))]
+    #[tactic(auto, using(crate::specs::Laws::bytes_cmp))]
     fn cmp(&self, other: &Tag) -> Ordering {
         self.bytes.cmp(&other.bytes)
     }

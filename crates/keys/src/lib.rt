@@ -3,3 +3,4 @@
 
 pub mod kind;
 pub mod point;
+pub mod tag;

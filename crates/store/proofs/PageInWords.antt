@@ -14,7 +14,7 @@ use Rattle.keys.specs.Order.{IsKeyOrder}
 use Rattle.store.specs.Keys.{keys}
 use Rattle.store.specs.Newest.{IsIn, IsNewest, IsReadAnswer, newest}
 use Rattle.store.specs.Page.{IsOnlyPage, IsPage, page}
-use Rattle.store.specs.Versions.{IsSorted, place_cmp}
+use Rattle.store.specs.Versions.{IsSorted, id_cmp}
 use Rattle.store.specs.declared.version.Version.{Version}
 use Rattle.store.proofs.InWords.{answers_same, newest_answers, some_or_none}
 use Rattle.store.proofs.Members.{only_some, same_members}
@@ -68,7 +68,7 @@ module _ {K : Type 0} (order : K → K → Ordering) (total : IsTotalOrder order
   abbrev same_key : K → K → Bool
   same_key k l = is_eq (order k l)
 
-  not_before : (v w : Version K) → place_cmp order v w ≡ Less → is_lt (order w.key v.key) ≡ false
+  not_before : (v w : Version K) → id_cmp order v w ≡ Less → is_lt (order w.key v.key) ≡ false
   not_before v w before = grind (arith, total.antisymm w.key v.key)
 
   keys_rise : (vs : List (Version K)) → IsSorted order vs → IsNonDecreasing order (map (λ v. v.key) vs)
@@ -76,7 +76,7 @@ module _ {K : Type 0} (order : K → K → Ordering) (total : IsTotalOrder order
   keys_rise (v ∷ vs) sorted k d low high =
       let long = length-map (v ∷ vs) (λ v. v.key) in
       rw (get_or-map (λ v. v.key) (v ∷ vs) k v d (omega (arith, high, long)), get_or-map (λ v. v.key) (v ∷ vs) (k + 1) v d (omega (arith, high, long)))
-      (not_before (get_or (v ∷ vs) k v) (get_or (v ∷ vs) (k + 1) v) (Less-from_sorted (place_cmp order) (v ∷ vs) k (k + 1) v sorted (omega arith) (omega (arith, high, long))))
+      (not_before (get_or (v ∷ vs) k v) (get_or (v ∷ vs) (k + 1) v) (Less-from_sorted (id_cmp order) (v ∷ vs) k (k + 1) v sorted (omega arith) (omega (arith, high, long))))
 
   keys_ascend : (vs : List (Version K)) → IsSorted order vs → IsStrictlySortedBy order (keys order vs)
   keys_ascend vs sorted = IsStrictlySortedBy-dedup total (λ k l. refl) (map (λ v. v.key) vs) (keys_rise vs sorted)

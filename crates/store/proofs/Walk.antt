@@ -11,7 +11,7 @@ use Rattle.std.proofs.lemmas.Bool.{both_ways}
 use Rattle.std.proofs.lemmas.Cmp.{tied_itself}
 use Rattle.std.proofs.lemmas.List.Kept.{IsStrictlySortedBy-filter}
 use Rattle.store.specs.Keys.{first_key, is_after, keys, next_key}
-use Rattle.store.specs.Versions.{IsSorted, place_cmp}
+use Rattle.store.specs.Versions.{IsSorted, id_cmp}
 use Rattle.store.specs.declared.version.Version.{Version}
 use Rattle.store.proofs.Descent.{not_after_before}
 use Rattle.store.proofs.Order.{Leads}
@@ -87,4 +87,4 @@ module _ {K : Type 0} (order : K → K → Ordering) where
 
     -- the keys after one are left where the next after it is next
     pub keys_from_next : (key : K) (vs : List (Version K)) → IsSorted order vs → keys_after key vs ≡ keys_left vs (next_key order vs key)
-    keys_from_next key vs sorted = next_by key vs _ refl (IsStrictlySortedBy-filter (place_cmp order) (is_after order key) vs sorted) ∙ ap (λ found. keys_left vs (option_map (λ v. v.key) found)) (sym (find_is_first (is_after order key) vs))
+    keys_from_next key vs sorted = next_by key vs _ refl (IsStrictlySortedBy-filter (id_cmp order) (is_after order key) vs sorted) ∙ ap (λ found. keys_left vs (option_map (λ v. v.key) found)) (sym (find_is_first (is_after order key) vs))

@@ -1,7 +1,7 @@
 -- What a version store means, and what an add does to it.
 use Rattle.std.specs.Prelude.{ℕ, ◌≤◌, List, [], length, if◌then◌else◌, nat_le, Ok, Err, Result, is_ok}
 use Rattle.std.specs.declared.cmp.Ordering.{Ordering}
-use Rattle.store.specs.Versions.{IsSorted, has_place, with_version}
+use Rattle.store.specs.Versions.{IsSorted, has_id, with_version}
 use Rattle.store.specs.declared.version.Version.{Version}
 
 pub record Contents (K : Type 0) : Type 0 where
@@ -17,7 +17,7 @@ module _ {K : Type 0} (order : K → K → Ordering) where
   -- what an add answers
   abbrev pub add_answer : Contents K → Version K → Result (Unit {0}) ℕ
   add_answer c v =
-      (if has_place order v c.versions then Err 17
+      (if has_id order v c.versions then Err 17
       else (if nat_le c.capacity (length c.versions) then Err 16 else Ok tt))
 
   -- what the store means after it: a refused add changes nothing

@@ -1,5 +1,5 @@
 -- The newest version of a key at or below a stamp.
-use Rattle.std.specs.Prelude.{◌≡◌, ℕ, ◌<◌, ◌≤◌, ◌⊎◌, Bool, ◌&&◌, List, [], ◌∷◌, nat_le, None, Some, Option}
+use Rattle.std.specs.Prelude.{◌≡◌, ℕ, ◌<◌, ◌≤◌, ◌⊎◌, Bool, ◌&&◌, List, [], ◌∷◌, nat_le, if◌then◌else◌, None, Some, Option}
 use Rattle.std.specs.declared.cmp.Ordering.{Ordering}
 use Rattle.std.specs.Ordering.{is_eq}
 use Rattle.std.specs.List.{filter, last_or}
@@ -9,6 +9,11 @@ module _ {K : Type 0} (order : K → K → Ordering) where
   -- is it of this key, and at or below the stamp?
   abbrev pub is_candidate : K → ℕ → Version K → Bool
   is_candidate key stamp v = is_eq (order v.key key) && nat_le v.stamp stamp
+
+  -- a version that was found, if it is of this key
+  abbrev pub only_of : K → Option (Version K) → Option (Version K)
+  only_of key None = None
+  only_of key (Some v) = (if is_eq (order v.key key) then Some v else None)
 
   -- the last of these: versions stand in order of key, stamp and node
   abbrev pub newest : List (Version K) → K → ℕ → Option (Version K)

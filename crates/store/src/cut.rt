@@ -1,7 +1,6 @@
 // The cut: a page of the store, in the caller's rows.
 ghost use Rattle.std.specs.Prelude.{◌≡◌, ◌≤◌, length};
 ghost use Rattle.refusals.specs.Refusals.{shown};
-ghost use Rattle.store.specs.Contents.{IsSound};
 ghost use Rattle.store.specs.Page.{IsOnlyPage, after_cut, count_within, cut_answer, page};
 
 use crate::listable::Listable;
@@ -32,7 +31,8 @@ pub fn cut<K: KeyKind, S: Listable<K>>(
 // How many rows the page has, or none if they are more than the places.
 fn row_count<K: KeyKind, S: Listable<K>>(store: &S, stamp: u64, places: usize) -> Option<usize>
     ensures count { result ≡ count_within (page K.cmp (S.contents store.now).versions stamp) places }
-    ensures sound { IsSound K.cmp (S.contents store.now) }
+    ensures in_words { IsOnlyPage K.cmp (S.contents store.now).versions stamp
+        (page K.cmp (S.contents store.now).versions stamp) }
 {
     let mut count = 0;
     let mut next = store.first_key();

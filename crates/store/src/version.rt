@@ -1,6 +1,6 @@
 // Versions.
 ghost use Rattle.std.specs.Prelude.{◌≡◌};
-ghost use Rattle.store.specs.Versions.{place_cmp};
+ghost use Rattle.store.specs.Versions.{id_cmp};
 
 use keys::kind::KeyKind;
 use std::cmp::Ordering;
@@ -18,8 +18,8 @@ pub struct Version<K> {
 
 impl<K: KeyKind> Version<K> {
     // By key, then stamp, then node.
-    pub fn place_cmp(&self, other: &Version<K>) -> Ordering
-        ensures { result ≡ place_cmp K.cmp self.now other.now }
+    pub fn id_cmp(&self, other: &Version<K>) -> Ordering
+        ensures { result ≡ id_cmp K.cmp self.now other.now }
     {
         (self.key, self.stamp, self.node).cmp(&(other.key, other.stamp, other.node))
     }

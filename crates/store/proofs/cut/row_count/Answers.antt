@@ -1,4 +1,5 @@
 use Rattle.std.proofs.Common.{ap, subst, length, arith, rules}
+use Rattle.store.proofs.PageInWords.{only_page}
 use Rattle.store.proofs.Rows.{Counted, fewer_left, rows_from_first, none_counted, row_counted}
 use Rattle.store.proofs.cut.row_count.Goals as goal
 use Rattle.store.proofs.cut.row_count.Goals.{then-is_some+else-count-places, else-is_some}
@@ -19,3 +20,9 @@ loop-next-preserved g c =
       | then-is_some+else-count-places w ↦ rw (c.next_key-next.ensures, w.count-is) (row_counted g.K.Ord.cmp _ c.args.stamp g.met.K.Ord.total _ _ _ counted (search rules) w.if-count-places.false)
       | else-is_some w ↦ rw (c.next_key-next.ensures, w.count-is) (none_counted g.K.Ord.cmp _ c.args.stamp g.met.K.Ord.total _ _ _ counted (search rules))
     ]
+
+pub returns-then-count-places-clause-in_words : goal.returns-then-count-places-clause-in_words
+returns-then-count-places-clause-in_words g c = only_page g.K.Ord.cmp g.met.K.Ord.total g.met.K.KeyKind.law _ c.args.stamp c.loop-next.invariant.sorted
+
+pub returns-clause-in_words : goal.returns-clause-in_words
+returns-clause-in_words g c = only_page g.K.Ord.cmp g.met.K.Ord.total g.met.K.KeyKind.law _ c.args.stamp c.loop-next.invariant.sorted

@@ -47,4 +47,5 @@ tree_of_chain nodes count free is whole =
       straight = subst IsChain (sym chain_is) is.straight;
       once = λ j. rw (none, chain_is) (omega (arith, is.once j));
       all = rw (none, chain_is) (omega (arith, is.all));
-      counted = rw none }
+      counted = rw none;
+    }

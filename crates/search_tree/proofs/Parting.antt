@@ -11,7 +11,7 @@ use Rattle.std.proofs.lemmas.List.{append-nil}
 use Rattle.std.proofs.lemmas.List.Elements.{filter-append}
 use Rattle.std.proofs.lemmas.List.Folds.{find-append}
 use Rattle.store.specs.Keys.{first_key, is_after, next_key}
-use Rattle.store.specs.Versions.{IsSorted, is_up_to, place_cmp}
+use Rattle.store.specs.Versions.{IsSorted, is_up_to, id_cmp}
 use Rattle.store.specs.declared.version.Version.{Version}
 use Rattle.store.proofs.Descent.{none_up_to, not_after_before}
 use Rattle.store.proofs.Order.{Leads}
@@ -36,7 +36,7 @@ first_key_step first (u ∷ us) v ws = refl
 module _ {K : Type 0} (order : K → K → Ordering) where
   -- each of these is before v
   abbrev pub Trails : Version K → List (Version K) → Type 0
-  Trails v us = AllByRecursion (λ u. place_cmp order u v ≡ Less) us
+  Trails v us = AllByRecursion (λ u. id_cmp order u v ≡ Less) us
 
   pub record IsParted (us : List (Version K)) (v : Version K) (ws : List (Version K)) : Type 0 where
     pub left : IsSorted order us
@@ -44,7 +44,7 @@ module _ {K : Type 0} (order : K → K → Ordering) where
     pub before : Trails v us
     pub after : Leads order v ws
 
-  leads_parts : (u v : Version K) (us ws : List (Version K)) → Leads order u (us ++ v ∷ ws) → Leads order u us × (place_cmp order u v ≡ Less)
+  leads_parts : (u v : Version K) (us ws : List (Version K)) → Leads order u (us ++ v ∷ ws) → Leads order u us × (id_cmp order u v ≡ Less)
   leads_parts u v [] ws leads = (tt, leads.0)
   leads_parts u v (x ∷ us) ws leads = let rest = leads_parts u v us ws leads.1 in ((leads.0, rest.0), rest.1)
 

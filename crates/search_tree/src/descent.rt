@@ -1,7 +1,7 @@
 // Ways down the tree, from the root to where they end.
-ghost use Rattle.std.specs.Prelude.{◌≡◌, None};
-ghost use Rattle.std.specs.List.{filter, last_or};
+ghost use Rattle.std.specs.Prelude.{◌≡◌};
 ghost use Rattle.store.specs.Keys.{first_key as first_key_of, next_key as next_key_of};
+ghost use Rattle.store.specs.Newest.{IsOnlyAnswer, newest, only_of};
 ghost use Rattle.store.specs.Versions.{IsSorted, is_up_to as is_up_to_of};
 ghost use Rattle.search_tree.specs.Shape.{IsTidy, below, walk};
 
@@ -15,7 +15,7 @@ fn is_up_to<K: KeyKind>(version: &Version<K>, key: K, stamp: u64) -> bool
     (version.key, version.stamp) <= (key, stamp)
 }
 
-// The last version not above this key and stamp.
+// The last version not above this key and stamp: the newest, if it is of the key.
 pub(crate) fn last_up_to<K: KeyKind>(
     nodes: &[Node<K>],
     root: Option<u16>,
@@ -24,8 +24,10 @@ pub(crate) fn last_up_to<K: KeyKind>(
 ) -> Option<Version<K>>
     requires tidy { IsTidy nodes.now root }
     requires sorted { IsSorted K.cmp (walk (below nodes.now root)) }
-    ensures { result ≡ last_or None
-        (filter (is_up_to_of K.cmp key stamp) (walk (below nodes.now root))) }
+    ensures newest { let held = walk (below nodes.now root) in
+        only_of K.cmp key result ≡ newest K.cmp held key stamp }
+    ensures in_words { let held = walk (below nodes.now root) in
+        IsOnlyAnswer held key stamp (only_of K.cmp key result) }
 {
     let mut last = None;
     let mut link = root;

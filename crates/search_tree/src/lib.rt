@@ -90,7 +90,8 @@ impl<'a, K: KeyKind> VersionStore<K> for SearchTree<'a, K> {
     }
 
     fn at(&self, key: K, stamp: u64) -> Option<Version<K>> {
-        descent::last_up_to(self.nodes, self.root, key, stamp).filter(|last| last.key == key)
+        let last = descent::last_up_to(self.nodes, self.root, key, stamp)?;
+        (last.key == key).then_some(last)
     }
 
     #[tactic(auto, using(crate::proofs::Walking::length_walk))]

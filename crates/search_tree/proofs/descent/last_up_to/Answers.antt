@@ -1,5 +1,10 @@
-use Rattle.std.proofs.Common.{arith, ap, sym}
-use Rattle.search_tree.specs.Shape.{walk}
+use Rattle.std.proofs.Common.{◌≡◌, None, sym, ◌∙◌, ap, arith}
+use Rattle.std.specs.List.{filter, last_or}
+use Rattle.store.specs.Newest.{only_of}
+use Rattle.store.specs.Versions.{is_up_to}
+use Rattle.store.proofs.Descent.{newest_is}
+use Rattle.store.proofs.InWords.{only_answer}
+use Rattle.search_tree.specs.Shape.{below, walk}
 use Rattle.search_tree.proofs.Parting.{last_left, last_right}
 use Rattle.search_tree.proofs.Standing.{below_none, step_down, within}
 use Rattle.search_tree.proofs.Walking.{sides}
@@ -37,5 +42,11 @@ loop-link-preserved g c =
       same = rw (c.loop-link.invariant.same, ap walk step.whole) (last_left g.K.Ord.cmp g.met.K.Ord.total c.args.key c.args.stamp c.loop-link.last _ _ _ parts.after (sym c.if-is_up_to.ensures));
     }
 
-pub returns : goal.returns
-returns g c = rw (c.loop-link.invariant.same, below_none _ _ c.in_default.is)
+pub returns-clause-newest : goal.returns-clause-newest
+returns-clause-newest g c =
+    let last : last_or None (filter (is_up_to g.K.Ord.cmp c.args.key c.args.stamp) (walk (below c.args.nodes.now c.args.root))) ≡ c.loop-link.last = rw (c.loop-link.invariant.same, below_none _ _ c.in_default.is) in
+    sym (newest_is g.K.Ord.cmp g.met.K.Ord.total c.args.key c.args.stamp _ c.requires.sorted ∙ ap (only_of g.K.Ord.cmp c.args.key) last)
+
+pub returns-clause-in_words : goal.returns-clause-in_words
+returns-clause-in_words g c =
+    only_answer g.K.Ord.cmp g.met.K.Ord.total g.met.K.KeyKind.law _ c.args.key c.args.stamp c.requires.sorted _ (returns-clause-newest g c)

@@ -1,8 +1,8 @@
-pub mod Answering
-pub mod Chaining
-pub mod Growing
-pub mod Parting
-pub mod Seating
-pub mod Standing
-pub mod Surgery
-pub mod Walking
+mod Answering
+mod Chaining
+mod Growing
+mod Parting
+mod Seating
+mod Standing
+mod Surgery
+mod Walking

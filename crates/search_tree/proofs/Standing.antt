@@ -5,7 +5,7 @@ use Rattle.std.specs.List.{slice_get}
 use Rattle.std.proofs.lemmas.Bool.Decides.{nat_tests}
 use Rattle.std.proofs.lemmas.Option.{none-some, same_Some, slice_get_read, slice_get_within}
 use Rattle.search_tree.specs.declared.Node.{Node}
-use Rattle.search_tree.specs.Shape.{IsTidy, Shape, Stands, below, below_within, fork, leaf, link_to, size, uses}
+use Rattle.search_tree.specs.Shape.{IsTidy, Shape, Stands, below, below_within, fork, leaf, link_to, size, use_count}
 
 found : {K : Type 0} (nodes : List (Node K)) (steps : ℕ) (s : Shape K) → Stands nodes s → size s ≤ steps → below_within steps nodes (link_to s) ≡ s
 found nodes zero leaf st le = refl
@@ -29,7 +29,7 @@ pub used_here : (place more rest : ℕ) → 0 < (if place == place then 1 else 0
 used_here place more rest = grind (arith, nat_tests)
 
 -- a change outside a shape leaves it
-pub stands_still : {K : Type 0} (nodes nodes' : List (Node K)) (s : Shape K) → Stands nodes s → ((p : ℕ) → 0 < uses s p → slice_get nodes' p ≡ slice_get nodes p) → Stands nodes' s
+pub stands_still : {K : Type 0} (nodes nodes' : List (Node K)) (s : Shape K) → Stands nodes s → ((p : ℕ) → 0 < use_count s p → slice_get nodes' p ≡ slice_get nodes p) → Stands nodes' s
 stands_still nodes nodes' leaf st same = tt
 stands_still nodes nodes' (fork place v l r) st same =
     (same place (used_here place _ _) ∙ st.0, stands_still nodes nodes' l st.1 (λ p used. same p (omega arith)), stands_still nodes nodes' r st.2 (λ p used. same p (omega arith)))

@@ -20,9 +20,9 @@ size leaf = 0
 size (fork place v left right) = 1 + size left + size right
 
 -- how often it takes a place
-abbrev pub uses : {K : Type 0} → Shape K → ℕ → ℕ
-uses leaf p = 0
-uses (fork place v left right) p = (if p == place then 1 else 0) + uses left p + uses right p
+abbrev pub use_count : {K : Type 0} → Shape K → ℕ → ℕ
+use_count leaf p = 0
+use_count (fork place v left right) p = (if p == place then 1 else 0) + use_count left p + use_count right p
 
 -- each fork has nothing on its left
 abbrev pub IsChain : {K : Type 0} → Shape K → Type 0
@@ -47,13 +47,13 @@ abbrev pub fork_of : {K : Type 0} → (Option ℕ → Shape K) → ℕ → Optio
 fork_of under place None = leaf
 fork_of under place (Some node) = fork place node.version (under node.left) (under node.right)
 
--- what is below a link, so many steps down
+-- what is below a link, at most so many steps down
 abbrev pub below_within : {K : Type 0} → ℕ → List (Node K) → Option ℕ → Shape K
 below_within zero nodes link = leaf
 below_within (suc steps) nodes None = leaf
 below_within (suc steps) nodes (Some place) = fork_of (below_within steps nodes) place (slice_get nodes place)
 
--- what is below a link
+-- what is below a link: no way down is longer than there are nodes
 unfoldable pub below : {K : Type 0} → List (Node K) → Option ℕ → Shape K
 below nodes link = below_within (length nodes) nodes link
 

@@ -1,7 +1,7 @@
 -- What a search tree means, and its good order.
 use Rattle.std.specs.Prelude.{◌≡◌, ℕ, ◌+◌, ◌≤◌, List, length, Option}
 use Rattle.store.specs.Contents.{Contents}
-use Rattle.search_tree.specs.Shape.{IsChain, IsTidy, below, size, uses, walk}
+use Rattle.search_tree.specs.Shape.{IsChain, IsTidy, below, size, use_count, walk}
 use Rattle.search_tree.specs.declared.Node.{Node}
 use Rattle.search_tree.specs.declared.SearchTree.TheInside.{Inside}
 
@@ -18,6 +18,8 @@ pub record IsTree {K : Type 0} (nodes : List (Node K)) (root free : Option ℕ) 
   pub tree : IsTidy nodes root
   pub chain : IsTidy nodes free
   pub straight : IsChain (below nodes free)
-  pub once : (place : ℕ) → uses (below nodes root) place + uses (below nodes free) place ≤ 1
+  -- no place twice, in one or in both
+  pub once : (place : ℕ) → use_count (below nodes root) place + use_count (below nodes free) place ≤ 1
+  -- and none in neither, as they are so many
   pub all : size (below nodes root) + size (below nodes free) ≡ length nodes
   pub counted : len ≡ size (below nodes root)

@@ -7,7 +7,7 @@ use keys::kind::KeyKind;
 
 // Chains all nodes by their right links, and gives the first.
 #[tactic(auto, using(crate::proofs::Chaining::chain_more))]
-pub(crate) fn chained<K: KeyKind>(nodes: &mut [Node<K>]) -> Option<u16>
+pub(crate) fn chain_all<K: KeyKind>(nodes: &mut [Node<K>]) -> Option<u16>
     requires { length nodes.old ≤ 65535 }
     ensures { IsTree nodes.new None result 0 }
 {

@@ -9,6 +9,7 @@ use crate::Node;
 use keys::kind::KeyKind;
 use store::version::Version;
 
+// Is it not above this key and stamp?
 fn is_up_to<K: KeyKind>(version: &Version<K>, key: K, stamp: u64) -> bool
     ensures { result ≡ is_up_to_of K.cmp key stamp version.now }
 {
@@ -43,6 +44,7 @@ pub(crate) fn last_up_to<K: KeyKind>(
     last
 }
 
+// The first key.
 pub(crate) fn first_key<K: KeyKind>(nodes: &[Node<K>], root: Option<u16>) -> Option<K>
     requires { IsTidy nodes.now root }
     ensures { result ≡ first_key_of (walk (below nodes.now root)) }

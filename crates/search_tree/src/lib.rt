@@ -68,7 +68,7 @@ impl<'a, K: KeyKind> SearchTree<'a, K> {
         if nodes.len() > MAX_PLACES {
             return Err(Refusal::SettingOutOfRange);
         }
-        let free = chain::chained(nodes);
+        let free = chain::chain_all(nodes);
         Ok(SearchTree {
             nodes,
             len: 0,

@@ -4,4 +4,8 @@
 #[cfg(test)]
 mod clocks_and_stamps;
 #[cfg(test)]
+mod stores;
+#[cfg(test)]
+mod tags;
+#[cfg(test)]
 mod traces;

@@ -1,8 +1,11 @@
 use keys::point::Point;
+use keys::tag::Tag;
 use refusals::refusal::Refusal;
+use search_tree::{Node, SearchTree};
 use sorted_run::SortedRun;
 use std::process::Abort;
 use std::test::Fail;
+use store::agree::agree;
 use store::cut::cut;
 use store::listable::Listable;
 use store::version::Version;
@@ -138,5 +141,68 @@ fn a_run_answers(rt: HostRuntime) -> Result<(), Fail> {
     eight_places_answer(&rt, &mut SortedRun::new(&mut [blank; 8])?);
     one_place_answers(&rt, &mut SortedRun::new(&mut [blank])?);
     no_place_answers(&rt, &mut SortedRun::new(&mut [])?);
+    Ok(())
+}
+
+#[test]
+fn a_tree_answers(rt: HostRuntime) -> Result<(), Fail> {
+    let blank = Node::new(of(0, 0, 0, 0));
+    eight_places_answer(&rt, &mut SearchTree::new(&mut [blank; 8])?);
+    one_place_answers(&rt, &mut SearchTree::new(&mut [blank])?);
+    no_place_answers(&rt, &mut SearchTree::new(&mut [])?);
+    Ok(())
+}
+
+#[test]
+fn a_place_too_many_is_refused(rt: HostRuntime) -> Result<(), Fail> {
+    let blank = of(0, 0, 0, 0);
+    let mut places = Vec::new(rt.alloc());
+    places.resize(65_536, blank)?;
+    let refused = SortedRun::new(places.as_mut_slice()).map(|run| run.capacity());
+    assert_eq!(rt; refused, Err(Refusal::SettingOutOfRange));
+    places.pop();
+    assert_eq!(rt; SortedRun::new(places.as_mut_slice())?.capacity(), 65_535);
+    let mut nodes = Vec::new(rt.alloc());
+    nodes.resize(65_536, Node::new(blank))?;
+    let refused = SearchTree::new(nodes.as_mut_slice()).map(|tree| tree.capacity());
+    assert_eq!(rt; refused, Err(Refusal::SettingOutOfRange));
+    nodes.pop();
+    assert_eq!(rt; SearchTree::new(nodes.as_mut_slice())?.capacity(), 65_535);
+    Ok(())
+}
+
+#[test]
+fn a_run_and_a_tree_of_tags_agree(rt: HostRuntime) -> Result<(), Fail> {
+    let pump = Tag::try_from(b"PUMP\0\0\0\0\0\0\0\0\0\0\0\0")?;
+    let pump_2 = Tag::try_from(b"PUMP-2\0\0\0\0\0\0\0\0\0\0")?;
+    let fan = Tag::try_from(b"FAN\0\0\0\0\0\0\0\0\0\0\0\0\0")?;
+    let blank = Version {
+        key: fan,
+        stamp: 0,
+        node: 0,
+        value: 0,
+    };
+    let (mut places, mut nodes) = ([blank; 4], [Node::new(blank); 4]);
+    let mut run = SortedRun::new(&mut places)?;
+    let mut tree = SearchTree::new(&mut nodes)?;
+    for (key, stamp, value) in [(pump_2, 5, 1), (pump, 9, 2), (fan, 7, 3), (pump, 5, 4)] {
+        let version = Version {
+            key,
+            stamp,
+            node: 0,
+            value,
+        };
+        run.add(&version)?;
+        // One version apart, they differ somewhere.
+        assert!(rt; !agree(&run, &tree, key, stamp));
+        tree.add(&version)?;
+        for asked in [pump, pump_2, fan] {
+            for stamp in [0, 5, 8, 9] {
+                assert!(rt; agree(&run, &tree, asked, stamp));
+            }
+        }
+    }
+    assert_eq!(rt; run.first_key(), Some(fan));
+    assert_eq!(rt; tree.next_key(pump), Some(pump_2));
     Ok(())
 }

@@ -33,46 +33,52 @@ fn value_at<S: VersionStore<Point>>(store: &S, key: u32, stamp: u64) -> Option<i
 
 // A store of eight places: three keys, a tie between nodes, and the ends of the stamps.
 fn eight_places_answer<S: Listable<Point>>(rt: &impl Abort, store: &mut S) {
-    let (low, high) = (0, u64::MAX);
     assert_eq!(rt; (store.count(), store.capacity()), (0, 8));
     assert_eq!(rt; store.first_key(), None);
     assert_eq!(rt; store.next_key(Point(0)), None);
-    assert_eq!(rt; store.at(Point(7), high), None);
-
+    assert_eq!(rt; store.at(Point(7), u64::MAX), None);
     for version in [
         of(7, 500, 1, 71),
         of(4, 500, 0, 41),
-        of(9, high, 255, 91),
+        of(9, u64::MAX, 255, 91),
         of(7, 500, 0, 70),
         of(7, 900, 0, 73),
-        of(4, low, 0, 40),
+        of(4, 0, 0, 40),
         of(7, 500, 3, 72),
     ] {
         assert_eq!(rt; store.add(&version), Ok(()));
     }
+    reads_are_answered(rt, store);
+    keys_are_told(rt, store);
+    pages_are_cut(rt, store);
+    last_places_are_filled(rt, store);
+}
 
-    // At, above and below a stamp; the highest node at a tie; the ends.
+// At, above and below a stamp; the highest node at a tie; the ends.
+fn reads_are_answered<S: Listable<Point>>(rt: &impl Abort, store: &S) {
     for (key, stamp, value) in [
         (7, 499, None),
         (7, 500, Some(72)),
         (7, 501, Some(72)),
         (7, 899, Some(72)),
         (7, 900, Some(73)),
-        (7, high, Some(73)),
-        (7, low, None),
-        (4, low, Some(40)),
+        (7, u64::MAX, Some(73)),
+        (7, 0, None),
+        (4, 0, Some(40)),
         (4, 499, Some(40)),
         (4, 500, Some(41)),
-        (9, high - 1, None),
-        (9, high, Some(91)),
-        (5, high, None),
-        (0, high, None),
-        (10, high, None),
+        (9, u64::MAX - 1, None),
+        (9, u64::MAX, Some(91)),
+        (5, u64::MAX, None),
+        (0, u64::MAX, None),
+        (10, u64::MAX, None),
     ] {
         assert_eq!(rt; value_at(store, key, stamp), value, "{key} {stamp}");
     }
+}
 
-    // Keys that are there, and keys between keys.
+// Keys that are there, and keys between keys.
+fn keys_are_told<S: Listable<Point>>(rt: &impl Abort, store: &S) {
     assert_eq!(rt; store.first_key(), Some(Point(4)));
     for (key, next) in [
         (0, Some(4)),
@@ -86,15 +92,16 @@ fn eight_places_answer<S: Listable<Point>>(rt: &impl Abort, store: &mut S) {
     ] {
         assert_eq!(rt; store.next_key(Point(key)).map(|key| key.0), next, "{key}");
     }
+}
 
-    // A repeated version is refused, whatever its value; a full store refuses a new one, and a repeated one as before.
+// A repeated version is refused, whatever its value; a full store refuses a new one, and a repeated one as before.
+fn last_places_are_filled<S: Listable<Point>>(rt: &impl Abort, store: &mut S) {
     assert_eq!(rt; number(store.add(&of(7, 500, 3, 0))), Some(17));
     assert_eq!(rt; store.add(&of(7, 500, 2, 74)), Ok(()));
     assert_eq!(rt; number(store.add(&of(7, 500, 4, 0))), Some(16));
     assert_eq!(rt; number(store.add(&of(7, 500, 2, 0))), Some(17));
     assert_eq!(rt; store.count(), 8);
     assert_eq!(rt; value_at(store, 7, 500), Some(72));
-    pages_are_cut(rt, store);
 }
 
 // Cuts of that store.

@@ -4,6 +4,7 @@ use Rattle.std.specs.declared.cmp.Ordering.{Ordering}
 use Rattle.store.specs.Versions.{IsSorted, has_id, with_version}
 use Rattle.store.specs.declared.version.Version.{Version}
 
+-- a set of versions, in order, and for how many there is room
 pub record Contents (K : Type 0) : Type 0 where
   pub versions : List (Version K)
   pub capacity : ℕ

@@ -10,11 +10,6 @@ module _ {K : Type 0} (order : K → K → Ordering) where
   abbrev pub is_candidate : K → ℕ → Version K → Bool
   is_candidate key stamp v = is_eq (order v.key key) && nat_le v.stamp stamp
 
-  -- a version that was found, if it is of this key
-  abbrev pub only_of : K → Option (Version K) → Option (Version K)
-  only_of key None = None
-  only_of key (Some v) = (if is_eq (order v.key key) then Some v else None)
-
   -- the last of these: versions stand in order of key, stamp and node
   abbrev pub newest : List (Version K) → K → ℕ → Option (Version K)
   newest versions key stamp = last_or None (filter (is_candidate key stamp) versions)
@@ -44,3 +39,8 @@ IsReadAnswer {K} versions key stamp None = (w : Version K) → IsIn w versions �
 pub record IsOnlyAnswer {K : Type 0} (versions : List (Version K)) (key : K) (stamp : ℕ) (found : Option (Version K)) : Type 0 where
   pub answers : IsReadAnswer versions key stamp found
   pub only : (other : Option (Version K)) → IsReadAnswer versions key stamp other → other ≡ found
+
+-- For stores that search: the version that a search for a key found, if it is of this key.
+abbrev pub only_of : {K : Type 0} (order : K → K → Ordering) → K → Option (Version K) → Option (Version K)
+only_of order key None = None
+only_of order key (Some v) = (if is_eq (order v.key key) then Some v else None)

@@ -26,10 +26,6 @@ module _ {K : Type 0} (order : K → K → Ordering) where
     pub is : IsPage versions stamp rows
     pub only : (other : List (Version K)) → IsPage versions stamp other → other ≡ rows
 
--- how many they are, unless they are more than the places
-abbrev pub count_within : {X : Type 0} → List X → ℕ → Option ℕ
-count_within page places = (if nat_le (length page) places then Some (length page) else None)
-
 -- what a cut answers: how many rows the page has, or 19 if the caller's list has fewer places
 abbrev pub cut_answer : {X : Type 0} → List X → ℕ → Result ℕ ℕ
 cut_answer page places = (if nat_le (length page) places then Ok (length page) else Err 19)
@@ -37,3 +33,7 @@ cut_answer page places = (if nat_le (length page) places then Ok (length page) e
 -- the caller's list after it: the places behind the page stay, and a refused cut changes none
 abbrev pub after_cut : {X : Type 0} → List X → List X → List X
 after_cut page rows = (if nat_le (length page) (length rows) then page ++ drop (length page) rows else rows)
+
+-- for a count that ends at the first row too many: how many rows there are, unless they are more than the places
+abbrev pub count_within : {X : Type 0} → List X → ℕ → Option ℕ
+count_within page places = (if nat_le (length page) places then Some (length page) else None)

@@ -14,8 +14,8 @@ pub record Answers (K : Type 0) : Type 0 where
   pub next_key : Option K
 
 -- what a store of these contents answers: of nothing else
-abbrev pub answers : {K : Type 0} (order : K → K → Ordering) → Contents K → K → ℕ → Answers K
-answers order c key stamp =
+abbrev pub answers_of : {K : Type 0} (order : K → K → Ordering) → Contents K → K → ℕ → Answers K
+answers_of order c key stamp =
     record {
       count = length c.versions;
       capacity = c.capacity;

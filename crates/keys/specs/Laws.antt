@@ -1,5 +1,5 @@
 -- Why the order of tags is an order. These lemmas stand here since an `impl` may cite no file of proofs/.
-use Rattle.std.specs.Prelude.{◌≡◌, ℕ, true, cond, List, [], ◌∷◌, length, IsTrue, nat_eq}
+use Rattle.std.specs.Prelude.{◌≡◌, ℕ, true, if◌then◌else◌, List, [], ◌∷◌, length, IsTrue, nat_eq}
 use Rattle.std.specs.Cmp.Lexicographic.{slice_cmp, pointwise, texts_ties, nat_list_cmp_total}
 use Rattle.std.specs.Ordering.{nat_cmp, is_eq, eq_by_cmp, as_partial_cmp}
 use Rattle.std.specs.Cmp.{IsTotalOrder, IsPartialOrder, partial_order_from_agreeing_total}
@@ -16,10 +16,10 @@ use mathlib.Core.HLevel.{is_prop→PathP}
 use Rattle.keys.specs.declared.tag.Tag.{Tag}
 use Rattle.keys.specs.Name.{is_name_byte, name_of, padding_of, is_blank, is_padded_name}
 
-pub name_of-cons : (x : ℕ) (xs : List ℕ) → name_of (x ∷ xs) ≡ cond (is_name_byte x) (x ∷ name_of xs) []
+pub name_of-cons : (x : ℕ) (xs : List ℕ) → name_of (x ∷ xs) ≡ (if is_name_byte x then x ∷ name_of xs else [])
 name_of-cons = take_while-cons is_name_byte
 
-padding_of-cons : (x : ℕ) (xs : List ℕ) → padding_of (x ∷ xs) ≡ cond (is_name_byte x) (padding_of xs) (x ∷ xs)
+padding_of-cons : (x : ℕ) (xs : List ℕ) → padding_of (x ∷ xs) ≡ (if is_name_byte x then padding_of xs else x ∷ xs)
 padding_of-cons x xs = grind (arith, nat_tests, name_of-cons)
 
 -- as many zero bytes are the same

@@ -10,7 +10,7 @@ number_of UnknownKind = 1
 number_of CutShort = 2
 -- a tag is no name of 1 to 16 bytes with only zero bytes behind it
 number_of MalformedTag = 3
--- a setting is out of its range, or a store that should be empty is not
+-- a setting or a number of places is out of its range, or a store that should be empty is not
 number_of SettingOutOfRange = 4
 -- the first record is no set-up, or a later one is
 number_of MisplacedSetUp = 5

@@ -2,7 +2,7 @@
 use Rattle.std.proofs.Common.{◌≡◌, ℕ, ◌+◌, ◌<◌, ◌≤◌, ◌==◌, List, Option, Some, None, if◌then◌else◌, length, set, refl, sym, ◌∙◌, ap, subst, arith}
 use Rattle.std.proofs.lemmas.Bool.Decides.{nat_tests}
 use Rattle.store.specs.declared.version.Version.{Version}
-use Rattle.search_tree.specs.Shape.{IsChain, IsTidy, Shape, Stands, below, fork, leaf, link_to, size, use_count}
+use Rattle.search_tree.specs.Shape.{IsChain, IsTidy, Shape, StandsIn, below, fork, leaf, link_to, size, use_count}
 use Rattle.search_tree.specs.Tree.{IsTree}
 use Rattle.search_tree.specs.declared.Node.{Node}
 use Rattle.search_tree.proofs.Standing.{below-link_to, below_none, slice_get-set_other, slice_get-set_same, stands_still, tidy_standing}
@@ -11,7 +11,7 @@ use Rattle.search_tree.proofs.Standing.{below-link_to, below_none, slice_get-set
 pub record IsChainOf {K : Type 0} (nodes : List (Node K)) (count : ℕ) (link : Option ℕ) : Type 0 where
   pub chain : Shape K
   pub linked : link_to chain ≡ link
-  pub stands : Stands nodes chain
+  pub stands : StandsIn nodes chain
   pub straight : IsChain chain
   pub all : size chain ≡ count
   pub once : (j : ℕ) → use_count chain j ≤ 1

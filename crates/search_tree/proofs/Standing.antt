@@ -5,9 +5,9 @@ use Rattle.std.specs.List.{slice_get}
 use Rattle.std.proofs.lemmas.Bool.Decides.{nat_tests}
 use Rattle.std.proofs.lemmas.Option.{none-some, same_Some, slice_get_read, slice_get_within}
 use Rattle.search_tree.specs.declared.Node.{Node}
-use Rattle.search_tree.specs.Shape.{IsTidy, Shape, Stands, below, below_within, fork, leaf, link_to, size, use_count}
+use Rattle.search_tree.specs.Shape.{IsTidy, Shape, StandsIn, below, below_within, fork, leaf, link_to, size, use_count}
 
-found : {K : Type 0} (nodes : List (Node K)) (steps : ℕ) (s : Shape K) → Stands nodes s → size s ≤ steps → below_within steps nodes (link_to s) ≡ s
+found : {K : Type 0} (nodes : List (Node K)) (steps : ℕ) (s : Shape K) → StandsIn nodes s → size s ≤ steps → below_within steps nodes (link_to s) ≡ s
 found nodes zero leaf st le = refl
 found nodes (suc steps) leaf st le = refl
 found nodes zero (fork place v l r) st le = absurd (omega arith)
@@ -16,20 +16,20 @@ found nodes (suc steps) (fork place v l r) st le =
     let b = found nodes steps r st.2 (omega arith) in
     rw (st.0, a, b)
 
-pub below-link_to : {K : Type 0} (nodes : List (Node K)) (s : Shape K) → Stands nodes s → size s ≤ length nodes → below nodes (link_to s) ≡ s
+pub below-link_to : {K : Type 0} (nodes : List (Node K)) (s : Shape K) → StandsIn nodes s → size s ≤ length nodes → below nodes (link_to s) ≡ s
 unfolding below
 below-link_to nodes s st le = found nodes (length nodes) s st le
 
-pub tidy_standing : {K : Type 0} (nodes : List (Node K)) (s : Shape K) → Stands nodes s → size s ≤ length nodes → IsTidy nodes (link_to s)
+pub tidy_standing : {K : Type 0} (nodes : List (Node K)) (s : Shape K) → StandsIn nodes s → size s ≤ length nodes → IsTidy nodes (link_to s)
 tidy_standing nodes s st le =
     let is = below-link_to nodes s st le in
-    record { linked = ap link_to is; stands = subst (Stands nodes) (sym is) st; fits = rw is le }
+    record { linked = ap link_to is; stands = subst (StandsIn nodes) (sym is) st; fits = rw is le }
 
 pub used_here : (place more rest : ℕ) → 0 < (if place == place then 1 else 0) + more + rest
 used_here place more rest = grind (arith, nat_tests)
 
 -- a change outside a shape leaves it
-pub stands_still : {K : Type 0} (nodes nodes' : List (Node K)) (s : Shape K) → Stands nodes s → ((p : ℕ) → 0 < use_count s p → slice_get nodes' p ≡ slice_get nodes p) → Stands nodes' s
+pub stands_still : {K : Type 0} (nodes nodes' : List (Node K)) (s : Shape K) → StandsIn nodes s → ((p : ℕ) → 0 < use_count s p → slice_get nodes' p ≡ slice_get nodes p) → StandsIn nodes' s
 stands_still nodes nodes' leaf st same = tt
 stands_still nodes nodes' (fork place v l r) st same =
     (same place (used_here place _ _) ∙ st.0, stands_still nodes nodes' l st.1 (λ p used. same p (omega arith)), stands_still nodes nodes' r st.2 (λ p used. same p (omega arith)))
@@ -42,7 +42,7 @@ pub record StepsTo {K : Type 0} (nodes : List (Node K)) (link : Option ℕ) (pla
   pub left_smaller : size (below nodes node.left) < size (below nodes link)
   pub right_smaller : size (below nodes node.right) < size (below nodes link)
 
-step_at : {K : Type 0} (nodes : List (Node K)) (link : Option ℕ) (place : ℕ) (node : Node K) (s : Shape K) → below nodes link ≡ s → Stands nodes s → size s ≤ length nodes → link_to s ≡ Some place → slice_get nodes place ≡ Some node → StepsTo nodes link place node
+step_at : {K : Type 0} (nodes : List (Node K)) (link : Option ℕ) (place : ℕ) (node : Node K) (s : Shape K) → below nodes link ≡ s → StandsIn nodes s → size s ≤ length nodes → link_to s ≡ Some place → slice_get nodes place ≡ Some node → StepsTo nodes link place node
 step_at nodes link place node leaf is st le to at = absurd (none-some _ to)
 step_at {K} nodes link place node (fork p v l r) is st le to at =
     let same : p ≡ place = same_Some _ _ to in
@@ -58,7 +58,7 @@ step_at {K} nodes link place node (fork p v l r) is st le to at =
     } in
     subst (StepsTo nodes link place) (sym node_is) at_place
 
-within_at : {K : Type 0} (nodes : List (Node K)) (place : ℕ) (s : Shape K) → Stands nodes s → link_to s ≡ Some place → place < length nodes
+within_at : {K : Type 0} (nodes : List (Node K)) (place : ℕ) (s : Shape K) → StandsIn nodes s → link_to s ≡ Some place → place < length nodes
 within_at nodes place leaf st to = absurd (none-some _ to)
 within_at nodes place (fork p v l r) st to = subst (λ q. q < length nodes) (same_Some _ _ to) (slice_get_within nodes p _ st.0)
 

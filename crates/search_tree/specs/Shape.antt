@@ -35,12 +35,12 @@ link_to leaf = None
 link_to (fork place v left right) = Some place
 
 -- the node at each of its places has that version, and links to what hangs there
-abbrev pub Stands : {K : Type 0} → List (Node K) → Shape K → Type 0
-Stands nodes leaf = Unit {0}
-Stands nodes (fork place v left right) =
+abbrev pub StandsIn : {K : Type 0} → List (Node K) → Shape K → Type 0
+StandsIn nodes leaf = Unit {0}
+StandsIn nodes (fork place v left right) =
     (slice_get nodes place ≡ Some (record { version = v; left = link_to left; right = link_to right }))
-    × Stands nodes left
-    × Stands nodes right
+    × StandsIn nodes left
+    × StandsIn nodes right
 
 -- a node that was read, with what is below its links
 abbrev pub fork_of : {K : Type 0} → (Option ℕ → Shape K) → ℕ → Option (Node K) → Shape K
@@ -60,5 +60,5 @@ below nodes link = below_within (length nodes) nodes link
 -- what is below the link makes a tree: it ends, and takes no more places than there are
 pub record IsTidy {K : Type 0} (nodes : List (Node K)) (link : Option ℕ) : Type 0 where
   pub linked : link_to (below nodes link) ≡ link
-  pub stands : Stands nodes (below nodes link)
+  pub stands : StandsIn nodes (below nodes link)
   pub fits : size (below nodes link) ≤ length nodes

@@ -2,7 +2,7 @@
 #![tactic(auto)]
 
 ghost use Rattle.std.specs.Prelude.{◌≡◌, length, None};
-ghost use Rattle.refusals.specs.Refusals.{shown};
+ghost use Rattle.refusals.specs.Refusals.{result_map, shown};
 ghost use Rattle.store.specs.Contents.{made_answer};
 
 use crate::hanging::Links;
@@ -63,7 +63,8 @@ impl<'a, K: KeyKind> SearchTree<'a, K> {
     // An empty tree in these nodes, as many as its capacity: refused with 4 where there are more than 65,535.
     #[tactic(auto, using(crate::proofs::Answering::sound_made, crate::proofs::Answering::answer_made))]
     pub fn new(nodes: &'a mut [Node<K>]) -> Result<SearchTree<'a, K>, Refusal>
-        ensures { shown result ≡ made_answer (length nodes.old) }
+        ensures { shown (result_map (⟦<SearchTree<'a, K> as VersionStore<K>>⟧.contents) result)
+            ≡ made_answer (length nodes.old) }
     {
         if nodes.len() > MAX_PLACES {
             return Err(Refusal::SettingOutOfRange);

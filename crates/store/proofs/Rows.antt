@@ -27,13 +27,13 @@ module _ {K : Type 0} (order : K → K → Ordering) (vs : List (Version K)) (st
   rows_left next = filter_map (λ key. newest order vs key stamp) (keys_left order vs next)
 
   -- so many rows are counted, and those of the keys that are left are not
-  pub record Counted (places count : ℕ) (next : Option K) : Type 0 where
+  pub record HasCounted (places count : ℕ) (next : Option K) : Type 0 where
     pub sorted : IsSorted order vs
     pub within : count ≤ places
     pub rest : count + length (rows_left next) ≡ length (page order vs stamp)
 
   -- the first rows are written, and those of the keys that are left are not
-  pub record Written (old rows : List (Version K)) (count : ℕ) (next : Option K) : Type 0 where
+  pub record HasWritten (old rows : List (Version K)) (count : ℕ) (next : Option K) : Type 0 where
     pub sorted : IsSorted order vs
     pub written : List (Version K)
     pub as_many : length written ≡ count
@@ -50,30 +50,30 @@ module _ {K : Type 0} (order : K → K → Ordering) (vs : List (Version K)) (st
     pub fewer_left : (key : K) → length (keys_left order vs (next_key order vs key)) < length (keys_left order vs (Some key))
     fewer_left key = omega (arith, ap length (keys_from_next order total key vs sorted))
 
-  module _ (total : IsTotalOrder order) (places count : ℕ) (key : K) (counted : Counted places count (Some key)) where
-    more_counted : (found : Option (Version K)) → newest order vs key stamp ≡ found → is_some found ≡ true → count ≢ places → Counted places (count + 1) (next_key order vs key)
+  module _ (total : IsTotalOrder order) (places count : ℕ) (key : K) (counted : HasCounted places count (Some key)) where
+    more_counted : (found : Option (Version K)) → newest order vs key stamp ≡ found → is_some found ≡ true → count ≢ places → HasCounted places (count + 1) (next_key order vs key)
     more_counted None is there room = absurd (both_ways false refl there)
     more_counted (Some v) is there room =
         let left = ap length (rows_from_next total counted.sorted key) in
         record { sorted = counted.sorted; within = omega (arith, counted.within, room); rest = omega (arith, counted.rest, left, ap (λ found. length (cons_option found (rows_left (next_key order vs key)))) is) }
 
     -- a key with a row
-    pub row_counted : is_some (newest order vs key stamp) ≡ true → count ≢ places → Counted places (count + 1) (next_key order vs key)
+    pub row_counted : is_some (newest order vs key stamp) ≡ true → count ≢ places → HasCounted places (count + 1) (next_key order vs key)
     row_counted = more_counted (newest order vs key stamp) refl
 
-    same_counted : (found : Option (Version K)) → newest order vs key stamp ≡ found → is_some found ≡ false → Counted places count (next_key order vs key)
+    same_counted : (found : Option (Version K)) → newest order vs key stamp ≡ found → is_some found ≡ false → HasCounted places count (next_key order vs key)
     same_counted (Some v) is none = absurd (both_ways true none refl)
     same_counted None is none =
         let left = ap length (rows_from_next total counted.sorted key) in
         record { sorted = counted.sorted; within = counted.within; rest = omega (arith, counted.rest, left, ap (λ found. length (cons_option found (rows_left (next_key order vs key)))) is) }
 
     -- a key without
-    pub none_counted : is_some (newest order vs key stamp) ≡ false → Counted places count (next_key order vs key)
+    pub none_counted : is_some (newest order vs key stamp) ≡ false → HasCounted places count (next_key order vs key)
     none_counted = same_counted (newest order vs key stamp) refl
 
-  module _ (total : IsTotalOrder order) (old rows : List (Version K)) (count : ℕ) (key : K) (done : Written old rows count (Some key)) where
+  module _ (total : IsTotalOrder order) (old rows : List (Version K)) (count : ℕ) (key : K) (done : HasWritten old rows count (Some key)) where
     -- a key with a row, for which there is room
-    pub row_written : (v : Version K) → newest order vs key stamp ≡ Some v → length (page order vs stamp) ≤ length old → Written old (set rows count v) (count + 1) (next_key order vs key)
+    pub row_written : (v : Version K) → newest order vs key stamp ≡ Some v → length (page order vs stamp) ≤ length old → HasWritten old (set rows count v) (count + 1) (next_key order vs key)
     row_written v is room =
         let left = rows_from_next total done.sorted key ∙ ap (λ found. cons_option found (rows_left (next_key order vs key))) is in
         let page_is : done.written ++ v ∷ rows_left (next_key order vs key) ≡ page order vs stamp = ap (λ left. done.written ++ left) (sym left) ∙ done.rest in
@@ -87,5 +87,5 @@ module _ {K : Type 0} (order : K → K → Ordering) (vs : List (Version K)) (st
           rows_are = ap (λ rows. set rows count v) done.rows_are ∙ put_next done.written old count v done.as_many fits;
         }
 
-    pub none_written : newest order vs key stamp ≡ None → Written old rows count (next_key order vs key)
+    pub none_written : newest order vs key stamp ≡ None → HasWritten old rows count (next_key order vs key)
     none_written is = record { sorted = done.sorted; written = done.written; as_many = done.as_many; rows_are = done.rows_are; rest = ap (λ left. done.written ++ left) (sym (rows_from_next total done.sorted key ∙ ap (λ found. cons_option found (rows_left (next_key order vs key))) is)) ∙ done.rest }

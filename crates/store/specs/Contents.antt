@@ -27,9 +27,9 @@ module _ {K : Type 0} (order : K → K → Ordering) where
       (if is_ok (add_answer c v) then record { versions = with_version order v c.versions; capacity = c.capacity } else c)
 
 -- a store in the caller's memory takes so many places at most
-abbrev pub max_places : ℕ
-max_places = 65535
+abbrev pub most_places : ℕ
+most_places = 65535
 
 -- what making a store in so many places answers: an empty one, or 4
 abbrev pub made_answer : {K : Type 0} → ℕ → Result (Contents K) ℕ
-made_answer places = (if nat_le places max_places then Ok (record { versions = []; capacity = places }) else Err 4)
+made_answer places = (if nat_le places most_places then Ok (record { versions = []; capacity = places }) else Err 4)

@@ -1,6 +1,5 @@
 // Two stores, asked alike.
-ghost use Rattle.std.specs.Prelude.{◌≡◌, true};
-ghost use Rattle.std.specs.Bool.{Decides};
+ghost use Rattle.std.specs.Prelude.{◌≡◌, ◌↔◌, IsTrue};
 ghost use Rattle.store.specs.Answers.{answers_of};
 
 use crate::listable::Listable;
@@ -8,9 +7,9 @@ use keys::kind::KeyKind;
 
 // Whether two stores answer every question on this key and stamp alike. Stores of the same contents do, whatever they are.
 pub fn agree<K: KeyKind, A: Listable<K>, B: Listable<K>>(a: &A, b: &B, key: K, stamp: u64) -> bool
-    ensures answer { Decides result (answers_of K.cmp (A.contents a.now) key stamp
+    ensures answer { IsTrue result ↔ (answers_of K.cmp (A.contents a.now) key stamp
         ≡ answers_of K.cmp (B.contents b.now) key stamp) }
-    ensures same_contents { A.contents a.now ≡ B.contents b.now → result ≡ true }
+    ensures same_contents { A.contents a.now ≡ B.contents b.now → IsTrue result }
 {
     a.count() == b.count()
         && a.capacity() == b.capacity()

@@ -8,7 +8,7 @@ use crate::version::Version;
 use keys::kind::KeyKind;
 use refusals::refusal::Refusal;
 
-// A store in the caller's memory takes so many places at most.
+// The most places that a store takes from its caller.
 pub const MAX_PLACES: usize = 65_535;
 
 // A set of versions of keys of one kind, of a fixed capacity.

@@ -11,7 +11,7 @@ use store::listable::Listable;
 use store::version::Version;
 use store::version_store::VersionStore;
 
-// A version of point 7 and the like; its value tells it from the others.
+// A version of a point; its value tells it from the others.
 fn of(key: u32, stamp: u64, node: u8, value: i32) -> Version<Point> {
     Version {
         key: Point(key),

@@ -1,10 +1,10 @@
 use Rattle.std.proofs.Common.{length}
-use Rattle.store.proofs.Rows.{Counted}
+use Rattle.store.proofs.Rows.{HasCounted}
 use Rattle.store.proofs.Walk.{keys_left}
 use Rattle.store.proofs.cut.row_count.Given as goal
 
 abbrev pub invariant-loop-next : goal.invariant-loop-next
-invariant-loop-next g l = Counted g.K.Ord.cmp (g.S.VersionStore.contents l.store).versions l.stamp l.places l.count l.next
+invariant-loop-next g l = HasCounted g.K.Ord.cmp (g.S.VersionStore.contents l.store).versions l.stamp l.places l.count l.next
 
 abbrev pub decreases-loop-next : goal.decreases-loop-next
 decreases-loop-next g l = length (keys_left g.K.Ord.cmp (g.S.VersionStore.contents l.store).versions l.next)

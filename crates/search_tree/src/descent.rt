@@ -45,6 +45,7 @@ pub(crate) fn last_up_to<K: KeyKind>(
 }
 
 // The first key.
+#[tactic(auto, using(crate::proofs::Parting::or_none))]
 pub(crate) fn first_key<K: KeyKind>(nodes: &[Node<K>], root: Option<u16>) -> Option<K>
     requires { IsTidy nodes.now root }
     ensures { result ≡ first_key_of (walk (below nodes.now root)) }
@@ -60,6 +61,7 @@ pub(crate) fn first_key<K: KeyKind>(nodes: &[Node<K>], root: Option<u16>) -> Opt
 }
 
 // The first key after this one.
+#[tactic(auto, using(crate::proofs::Parting::or_none))]
 pub(crate) fn next_key<K: KeyKind>(nodes: &[Node<K>], root: Option<u16>, key: K) -> Option<K>
     requires tidy { IsTidy nodes.now root }
     requires sorted { IsSorted K.cmp (walk (below nodes.now root)) }

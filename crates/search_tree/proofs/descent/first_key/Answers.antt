@@ -1,6 +1,6 @@
 use Rattle.std.proofs.Common.{ap, arith}
 use Rattle.search_tree.specs.Shape.{walk}
-use Rattle.search_tree.proofs.Parting.{first_key_step, or_none}
+use Rattle.search_tree.proofs.Parting.{first_key_step}
 use Rattle.search_tree.proofs.Standing.{below_none, step_down, within}
 use Rattle.search_tree.proofs.descent.first_key.Goals as goal
 
@@ -9,9 +9,6 @@ offset_bounds-nodes-place g c = let inside = within _ _ _ c.loop-link.invariant.
 
 pub bounds-nodes-place : goal.bounds-nodes-place
 bounds-nodes-place g c = within _ _ _ c.loop-link.invariant.tidy c.in-Some.is
-
-pub loop-link-init : goal.loop-link-init
-loop-link-init g c = grind (arith, or_none)
 
 pub loop-link-smaller : goal.loop-link-smaller
 loop-link-smaller g c = (step_down _ _ _ _ c.loop-link.invariant.tidy c.in-Some.is c.index-nodes-place.is).left_smaller

@@ -1,7 +1,7 @@
 use Rattle.std.proofs.Common.{◌≡◌, true, false, ap, arith, rules}
 use Rattle.store.specs.Keys.{is_after}
 use Rattle.search_tree.specs.Shape.{walk}
-use Rattle.search_tree.proofs.Parting.{next_key_left, next_key_right, or_none}
+use Rattle.search_tree.proofs.Parting.{next_key_left, next_key_right}
 use Rattle.search_tree.proofs.Standing.{below_none, step_down, within}
 use Rattle.search_tree.proofs.Walking.{sides}
 use Rattle.search_tree.proofs.descent.next_key.Goals as goal
@@ -11,9 +11,6 @@ offset_bounds-nodes-place g c = let inside = within _ _ _ c.loop-link.invariant.
 
 pub bounds-nodes-place : goal.bounds-nodes-place
 bounds-nodes-place g c = within _ _ _ c.loop-link.invariant.tidy c.in-Some.is
-
-pub loop-link-init : goal.loop-link-init
-loop-link-init g c = grind (arith, or_none)
 
 pub loop-link-smaller-then-gt : goal.loop-link-smaller-then-gt
 loop-link-smaller-then-gt g c = (step_down _ _ _ _ c.loop-link.invariant.tidy c.in-Some.is c.index-nodes-place.is).left_smaller

@@ -1,0 +1,44 @@
+-- The law of whole runs.
+use Rattle.std.specs.Prelude.{ℕ, ◌+◌, ◌<◌, ◌≤◌, List, length, Option}
+use Rattle.std.specs.declared.cmp.Ordering.{Ordering}
+use Rattle.stamps.specs.Stamp.{code_of}
+use Rattle.store.specs.Newest.{IsIn, IsReadAnswer}
+use Rattle.store.specs.Page.{IsPage}
+use Rattle.store.specs.declared.version.Version.{Version}
+use Rattle.history.specs.Before.{HappenedBefore, IsLargestReading, IsLongestChain}
+use Rattle.history.specs.Entering.{Setup}
+use Rattle.history.specs.Events.{Event, event_at, puts}
+use Rattle.history.specs.History.{Cut, Entry, IsHistory, Read, events_of}
+
+-- its clauses
+pub data Clause : Type 0 where
+  Time Lead Counter Order Reads Cuts : Clause
+
+module _ {K : Type 0} (order : K → K → Ordering) (setup : Setup) (history : List (Entry K)) where
+  abbrev events : List (Event K)
+  events = events_of history
+
+  -- What each clause says of a history: the first four of each of its events, the last two of each of its answers.
+  abbrev pub Holds : Clause → Type 0
+  -- the time is the largest reading among the event itself and those that happened before it
+  Holds Time = (j : ℕ) → j < length events → IsLargestReading events j (event_at events j).stamp.time
+  -- the time is above the event's own reading by the lead and the node's backstep at most
+  Holds Lead = (j : ℕ) → j < length events
+      → (event_at events j).stamp.time ≤ (event_at events j).reading + setup.lead + setup.backstep (event_at events j).node
+  -- the counter is the length of the longest chain of events that happened before it and have its time
+  Holds Counter = (j : ℕ) → j < length events → IsLongestChain events j (event_at events j).stamp.counter
+  -- the stamp is later than that of every event that happened before it
+  Holds Order = (i j : ℕ) → HappenedBefore events i j → code_of (event_at events i).stamp < code_of (event_at events j).stamp
+  -- the answer to a read is the right one among all puts of the history, later ones too
+  Holds Reads = (key : K) (stamp : ℕ) (answer : Option (Version K))
+      → IsIn (Read key stamp answer) history → IsReadAnswer (puts events) key stamp answer
+  -- the rows of a cut are the page among all puts of the history, later ones too
+  Holds Cuts = (stamp : ℕ) (rows : List (Version K)) → IsIn (Cut stamp rows) history → IsPage order (puts events) stamp rows
+
+  -- every clause holds
+  abbrev pub IsLawful : Type 0
+  IsLawful = (clause : Clause) → Holds clause
+
+-- Every history is lawful.
+abbrev pub Law : {K : Type 0} → (K → K → Ordering) → Type 0
+Law {K} order = (setup : Setup) (history : List (Entry K)) → IsHistory order setup history → IsLawful order setup history

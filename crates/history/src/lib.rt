@@ -1,0 +1,4 @@
+// What holds of every run, as mathematics.
+#![tactic(auto)]
+
+pub mod law;

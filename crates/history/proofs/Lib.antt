@@ -1,2 +1,3 @@
 pub mod Places
 pub mod Chains
+pub mod Entered

@@ -50,12 +50,14 @@ module _ {K : Type 0} (events : List (Event K)) where
       (omega arith, last.1)
 
   -- an entered receipt has the stamp of one
-  receipt_of : {setup : Setup} (j number : ℕ) → AreEntered setup events → j < length events → (event_at events j).what ≡ Receipt number → IsReceiptStamp setup.lead (take j events) (event_at events j) number
+  receipt_of : {setup : Setup} (j number : ℕ) → AreEntered setup events → j < length events → (event_at events j).what ≡ Receipt number
+      → IsReceiptStamp setup.lead (take j events) (event_at events j) number
   receipt_of {setup} j number entered inside is = subst (IsStamped setup.lead (take j events) (event_at events j)) is (entered j inside).stamp
 
 module _ {K : Type 0} {one other : List (Event K)} {to from : ℕ → ℕ} (moved : IsReordering one other to from) where
   -- what each event keeps on the way there it keeps on the way back
-  kept_back : {X : Type 0} (of : Event K → X) → ((i : ℕ) → i < length one → of (event_at other (to i)) ≡ of (event_at one i)) → (i : ℕ) → i < length other → of (event_at one (from i)) ≡ of (event_at other i)
+  kept_back : {X : Type 0} (of : Event K → X) → ((i : ℕ) → i < length one → of (event_at other (to i)) ≡ of (event_at one i))
+      → (i : ℕ) → i < length other → of (event_at one (from i)) ≡ of (event_at other i)
   kept_back of kept i inside = let back = moved.back i inside in sym (kept (from i) back.0) ∙ ap (λ place. of (event_at other place)) back.1
 
   in_order_back : (i j : ℕ) → i < j → j < length other → (event_at other i).node ≡ (event_at other j).node → from i < from j
@@ -149,7 +151,9 @@ module _ {K : Type 0} {one other : List (Event K)} {to from : ℕ → ℕ} (move
           omega (arith, longest.2, length-map longest.0 to, (other_counters (to j) (moved.there j inside).0).none_longer (map to longest.0) there)
 
   -- a number that is no larger on the way there, nor on the way back, is the same
-  same_number : (of : Event K → ℕ) → ((i : ℕ) → i < length one → of (event_at one i) ≤ of (event_at other (to i))) → ((i : ℕ) → i < length other → of (event_at other i) ≤ of (event_at one (from i))) → (i : ℕ) → i < length one → of (event_at other (to i)) ≡ of (event_at one i)
+  same_number : (of : Event K → ℕ) → ((i : ℕ) → i < length one → of (event_at one i) ≤ of (event_at other (to i)))
+      → ((i : ℕ) → i < length other → of (event_at other i) ≤ of (event_at one (from i)))
+      → (i : ℕ) → i < length one → of (event_at other (to i)) ≡ of (event_at one i)
   same_number of above below i inside =
       let there = moved.there i inside in
       omega (arith, above i inside, below (to i) there.0, ap (λ place. of (event_at one place)) there.1)

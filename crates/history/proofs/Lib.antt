@@ -1,3 +1,4 @@
 pub mod Places
 pub mod Chains
 pub mod Entered
+pub mod Reordering

@@ -2,3 +2,5 @@ pub mod Places
 pub mod Chains
 pub mod Entered
 pub mod Reordering
+pub mod SameVersions
+pub mod Puts

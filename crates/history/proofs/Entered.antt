@@ -170,7 +170,7 @@ module _ {K : Type 0} {setup : Setup} {events : List (Event K)} (entered : AreEn
       let ruled = is_ruled j inside in
       subst (IsLater (last_stamp (take j events) (event_at events j).node)) (sym ruled.by_rule) (after_last (last_stamp (take j events) (event_at events j).node) ruled.sent (event_at events j).reading)
 
-  not_early : (j : ℕ) → j < length events → (event_at events j).reading ≤ (event_at events j).stamp.time
+  pub not_early : (j : ℕ) → j < length events → (event_at events j).reading ≤ (event_at events j).stamp.time
   not_early j inside = let ruled = is_ruled j inside in omega (arith, ap (λ s. s.time) ruled.by_rule)
 
   -- the stamps of one node rise; n bounds the recursion

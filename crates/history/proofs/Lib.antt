@@ -4,3 +4,6 @@ pub mod Entered
 pub mod Reordering
 pub mod SameVersions
 pub mod Puts
+pub mod Entries
+pub mod Settling
+pub mod Lawful

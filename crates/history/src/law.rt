@@ -8,6 +8,7 @@ ghost use Rattle.history.specs.Unique.{OneAnswer, OnePage, OneStamping};
 use keys::kind::KeyKind;
 
 // Whether every history keeps the law of whole runs.
+#[tactic(auto, using(crate::proofs::Lawful::lawful))]
 pub fn law_holds<K: KeyKind>() -> bool
     ensures answer { result ≡ true }
     ensures law { Law K.cmp }
@@ -16,6 +17,7 @@ pub fn law_holds<K: KeyKind>() -> bool
 }
 
 // Whether no later entry changes an answer at a settled stamp.
+#[tactic(auto, using(crate::proofs::Settling::leaves_answers))]
 pub fn settled_stays<K: KeyKind>() -> bool
     ensures answer { result ≡ true }
     ensures stays { SettledStays K.cmp }

@@ -1,2 +1,4 @@
+pub mod OneAnswer
 pub mod Puts
+pub mod Reordered
 pub mod SameVersions

@@ -4,7 +4,9 @@ use Rattle.std.specs.List.{cons_option}
 use Rattle.std.proofs.lemmas.List.Elements.{filter_map-append}
 use Rattle.store.specs.Newest.{IsIn}
 use Rattle.store.specs.declared.version.Version.{Version}
-use Rattle.history.specs.Events.{Event, event_at, puts, version_of}
+use Rattle.stamps.specs.Stamp.{code_of}
+use Rattle.store.proofs.InWords.{some_or_none}
+use Rattle.history.specs.Events.{Event, Note, Put, Receipt, Send, What, event_at, puts, version_of}
 
 -- what is in two joined lists is in one of them
 module _ {X : Type 0} (x : X) where
@@ -26,6 +28,18 @@ module _ {X : Type 0} (x : X) where
   behind_option : (found : Option X) (xs : List X) → IsIn x xs → IsIn x (cons_option found xs)
   behind_option None xs is_in = is_in
   behind_option (Some y) xs is_in = inr is_in
+
+-- v is the version of an event that did this
+pub record IsOfPut {K : Type 0} (e : Event K) (what : What K) (v : Version K) : Type 0 where
+  pub put : what ≡ Put v.key v.value
+  pub stamp : v.stamp ≡ code_of e.stamp
+  pub node : v.node ≡ e.node
+
+pub of_put : {K : Type 0} (e : Event K) (what : What K) (v : Version K) → version_of e what ≡ Some v → IsOfPut e what v
+of_put e Note v is = absurd (some_or_none (sym is))
+of_put e (Send number) v is = absurd (some_or_none (sym is))
+of_put e (Receipt number) v is = absurd (some_or_none (sym is))
+of_put e (Put key value) v is = record { put = cc is; stamp = cc is; node = cc is }
 
 -- v was put by the event at a place
 pub record IsPutAt {K : Type 0} (events : List (Event K)) (v : Version K) : Type 0 where

@@ -1,11 +1,11 @@
--- Puts have one answer and one page at each stamp: put into a store one after another, they are in order.
-use Rattle.std.proofs.Common.{◌≡◌, ℕ, suc, ◌<◌, ◌⊎◌, inl, inr, Bool, true, false, List, [], ◌∷◌, length, Some, None, Option, refl, sym, ap, ◌∙◌, subst, arith}
+-- Puts have exactly one answer and one page at each stamp, since a store that they are put into, one after another, has them in order.
+use Rattle.std.proofs.Common.{◌≡◌, ℕ, suc, ◌<◌, ◌⊎◌, inl, inr, false, List, [], ◌∷◌, length, Some, None, Option, refl, sym, ◌∙◌, subst, arith}
 use Rattle.std.specs.Cmp.{IsTotalOrder}
 use Rattle.std.specs.declared.cmp.Ordering.{Ordering}
 use Rattle.std.specs.List.{cons_option, fold}
 use Rattle.std.specs.List.Sorted.{IsStrictlySortedBy}
-use Rattle.std.specs.Ordering.{is_eq, is_lt}
-use Rattle.std.proofs.lemmas.Bool.{cases_eq, or_from}
+use Rattle.std.specs.Ordering.{is_eq}
+use Rattle.std.proofs.lemmas.Bool.{or_from}
 use Rattle.std.proofs.lemmas.Bool.Decides.{nat_tests}
 use Rattle.keys.specs.Order.{IsKeyOrder}
 use Rattle.stamps.specs.Stamp.{code_of}
@@ -21,17 +21,17 @@ use Rattle.history.proofs.Puts.{IsPutAt, of_put, put_at}
 use Rattle.history.proofs.SameVersions.{AreSameUpTo, answer_carries, page_carries, same_back}
 
 module _ {K : Type 0} where
-  -- a version is of an earlier stamp than each of these that is of its node
+  -- its stamp is below that of each of these that has its node
   abbrev pub IsEarlier : Version K → List (Version K) → Type 0
   IsEarlier v ws = (w : Version K) → IsIn w ws → w.node ≡ v.node → v.stamp < w.stamp
 
-  -- along the list the stamps of each node rise
+  -- along these versions the stamps of each node rise
   abbrev pub AreRising : List (Version K) → Type 0
   AreRising [] = Unit {0}
   AreRising (v ∷ vs) = IsEarlier v vs × AreRising vs
 
   module _ (order : K → K → Ordering) where
-    -- versions put one after another into a store that has some
+    -- these versions, put one after another into a store that has some
     abbrev pub recorded_onto : List (Version K) → List (Version K) → List (Version K)
     recorded_onto ws vs = fold (λ ws v. with_version order v ws) ws vs
 
@@ -55,17 +55,20 @@ module _ {K : Type 0} where
     onto_back u [] ws is_in = inr is_in
     onto_back u (v ∷ vs) ws is_in = let more = onto_back u vs (with_version order v ws) is_in in let first = from_with u v ws in grind arith
 
-    -- what is recorded are these versions
+    -- what is recorded is what was put in
     pub recorded_there : (v : Version K) (vs : List (Version K)) → IsIn v vs → IsIn v (recorded vs)
     recorded_there v vs is_in = onto_there v vs [] (inl is_in)
 
     pub recorded_back : (v : Version K) (vs : List (Version K)) → IsIn v (recorded vs) → IsIn v vs
     recorded_back v vs is_in = let back = onto_back v vs [] is_in in grind arith
 
+    pub recorded_same : (stamp : ℕ) (vs : List (Version K)) → AreSameUpTo stamp (recorded vs) vs
+    recorded_same stamp vs = record { there = λ v below. recorded_back v vs; back = λ v below. recorded_there v vs }
+
+    -- a version that is later than all of its node has a new key, stamp and node
     other_id : (v w : Version K) → (w.node ≡ v.node → w.stamp < v.stamp) → is_eq (id_cmp order v w) ≡ false
     other_id v w earlier = grind (arith, nat_tests)
 
-    -- a version that all of its node are earlier than is no one's
     no_id : (v : Version K) (ws : List (Version K)) → ((w : Version K) → IsIn w ws → w.node ≡ v.node → w.stamp < v.stamp) → has_id order v ws ≡ false
     no_id v [] earlier = refl
     no_id v (w ∷ ws) earlier = or_from _ _ (other_id v w (earlier w (inl refl))) (no_id v ws (λ u is_in. earlier u (inr is_in)))
@@ -85,10 +88,7 @@ module _ {K : Type 0} where
       unfolding IsStrictlySortedBy
       recorded_sorted vs rising = onto_sorted vs [] tt rising (λ w is_in. elim is_in [ ])
 
-    pub recorded_same : (stamp : ℕ) (vs : List (Version K)) → AreSameUpTo stamp (recorded vs) vs
-    recorded_same stamp vs = record { there = λ v below. recorded_back v vs; back = λ v below. recorded_there v vs }
-
-  -- the stamps of each node rise
+  -- along these events the stamps of each node rise
   abbrev pub NodesRise : List (Event K) → Type 0
   NodesRise events = (i j : ℕ) → i < j → j < length events → (event_at events i).node ≡ (event_at events j).node → code_of (event_at events i).stamp < code_of (event_at events j).stamp
 

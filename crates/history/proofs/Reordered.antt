@@ -6,7 +6,8 @@ use Rattle.history.proofs.Puts.{put_at, put_in}
 use Rattle.history.proofs.SameVersions.{AreSameUpTo}
 
 module _ {K : Type 0} {one other : List (Event K)} {to from : ℕ → ℕ} (moved : IsReordering one other to from) (stamps : (i : ℕ) → i < length one → (event_at other (to i)).stamp ≡ (event_at one i).stamp) where
-  pub event_moved : (i : ℕ) → i < length one → event_at other (to i) ≡ event_at one i
+  -- an event is the same at its other place, so that it puts the same version
+  event_moved : (i : ℕ) → i < length one → event_at other (to i) ≡ event_at one i
   event_moved i inside = λ k. record { node = moved.node i inside k; reading = moved.reading i inside k; stamp = stamps i inside k; what = moved.what i inside k }
 
   pub puts_same : (stamp : ℕ) → AreSameUpTo stamp (puts one) (puts other)

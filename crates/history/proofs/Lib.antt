@@ -1,9 +1,13 @@
+pub mod Lists
 pub mod Places
 pub mod Chains
 pub mod Entered
 pub mod Reordering
 pub mod SameVersions
 pub mod Puts
+pub mod OneAnswer
+pub mod Reordered
 pub mod Entries
 pub mod Settling
 pub mod Lawful
+pub mod Unique

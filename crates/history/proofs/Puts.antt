@@ -1,31 +1,34 @@
 -- What is among the puts of events.
-use Rattle.std.proofs.Common.{◌≡◌, ℕ, zero, suc, ◌<◌, ◌⊎◌, inl, inr, List, [], ◌∷◌, ◌++◌, length, Some, None, Option, refl, sym, ap, ◌∙◌, subst, arith}
+use Rattle.std.proofs.Common.{◌≡◌, ℕ, zero, suc, ◌<◌, ◌⊎◌, inl, inr, List, [], ◌∷◌, ◌++◌, length, Some, None, Option, refl, sym, ap, ◌∙◌, arith}
 use Rattle.std.specs.List.{cons_option}
 use Rattle.std.proofs.lemmas.List.Elements.{filter_map-append}
+use Rattle.stamps.specs.Stamp.{code_of}
 use Rattle.store.specs.Newest.{IsIn}
 use Rattle.store.specs.declared.version.Version.{Version}
-use Rattle.history.specs.Events.{Event, event_at, puts, version_of}
+use Rattle.store.proofs.InWords.{some_or_none}
+use Rattle.history.specs.Events.{Event, Note, Put, Receipt, Send, What, event_at, puts, version_of}
 
--- what is in two joined lists is in one of them
+-- what is in two joined lists is in one of them, and the other way round
 module _ {X : Type 0} (x : X) where
   pub from_append : (xs ys : List X) → IsIn x (xs ++ ys) → IsIn x xs ⊎ IsIn x ys
   from_append [] ys is_in = inr is_in
-  from_append (z ∷ xs) ys (inl here) = inl (inl here)
-  from_append (z ∷ xs) ys (inr there) = elim (from_append xs ys there) [
-    | inl first ↦ inl (inr first)
-    | inr second ↦ inr second
-  ]
+  from_append (z ∷ xs) ys is_in = let more = from_append xs ys in grind arith
 
   pub in_append : (xs ys : List X) → IsIn x xs ⊎ IsIn x ys → IsIn x (xs ++ ys)
-  in_append [] ys (inl first) = elim first [ ]
-  in_append [] ys (inr second) = second
-  in_append (z ∷ xs) ys (inl (inl here)) = inl here
-  in_append (z ∷ xs) ys (inl (inr there)) = inr (in_append xs ys (inl there))
-  in_append (z ∷ xs) ys (inr second) = inr (in_append xs ys (inr second))
+  in_append [] ys is_in = grind arith
+  in_append (z ∷ xs) ys is_in = let more = in_append xs ys in grind arith
 
-  behind_option : (found : Option X) (xs : List X) → IsIn x xs → IsIn x (cons_option found xs)
-  behind_option None xs is_in = is_in
-  behind_option (Some y) xs is_in = inr is_in
+-- v is the version of an event that did this
+pub record IsOfPut {K : Type 0} (e : Event K) (what : What K) (v : Version K) : Type 0 where
+  pub put : what ≡ Put v.key v.value
+  pub stamp : v.stamp ≡ code_of e.stamp
+  pub node : v.node ≡ e.node
+
+pub of_put : {K : Type 0} (e : Event K) (what : What K) (v : Version K) → version_of e what ≡ Some v → IsOfPut e what v
+of_put e Note v is = absurd (some_or_none (sym is))
+of_put e (Send number) v is = absurd (some_or_none (sym is))
+of_put e (Receipt number) v is = absurd (some_or_none (sym is))
+of_put e (Put key value) v is = record { put = cc is; stamp = cc is; node = cc is }
 
 -- v was put by the event at a place
 pub record IsPutAt {K : Type 0} (events : List (Event K)) (v : Version K) : Type 0 where
@@ -34,9 +37,11 @@ pub record IsPutAt {K : Type 0} (events : List (Event K)) (v : Version K) : Type
   pub is : version_of (event_at events place) (event_at events place).what ≡ Some v
 
 module _ {K : Type 0} where
+  -- what joined lists of events put
   pub puts-append : (earlier later : List (Event K)) → puts (earlier ++ later) ≡ puts earlier ++ puts later
   puts-append = filter_map-append (λ e. version_of e e.what)
 
+  -- what is put was put at a place
   put_behind : (e : Event K) (events : List (Event K)) (v : Version K) → IsPutAt events v → IsPutAt (e ∷ events) v
   put_behind e events v put = record { place = suc put.place; inside = omega (arith, put.inside); is = put.is }
 
@@ -49,10 +54,11 @@ module _ {K : Type 0} where
   put_at [] v is_in = elim is_in [ ]
   put_at (e ∷ events) v is_in = put_at_by e events v (version_of e e.what) refl is_in (put_at events v)
 
+  -- and what was put at a place is put
   in_puts : (events : List (Event K)) (v : Version K) (place : ℕ) → place < length events → version_of (event_at events place) (event_at events place).what ≡ Some v → IsIn v (puts events)
   in_puts [] v place inside is = absurd (omega (arith, inside))
   in_puts (e ∷ events) v zero inside is = rw is (inl refl)
-  in_puts (e ∷ events) v (suc place) inside is = behind_option v (version_of e e.what) (puts events) (in_puts events v place (omega (arith, inside)) is)
+  in_puts (e ∷ events) v (suc place) inside is = let more = in_puts events v place (omega (arith, inside)) is in grind arith
 
   pub put_in : (events : List (Event K)) (v : Version K) → IsPutAt events v → IsIn v (puts events)
   put_in events v put = in_puts events v put.place put.inside put.is

@@ -1,0 +1,121 @@
+-- Puts have exactly one answer and one page at each stamp, since a store that they are put into, one after another, has them in order.
+use Rattle.std.proofs.Common.{◌≡◌, ℕ, suc, ◌<◌, ◌⊎◌, inl, inr, false, List, [], ◌∷◌, length, Some, None, Option, refl, sym, ◌∙◌, subst, arith}
+use Rattle.std.specs.Cmp.{IsTotalOrder}
+use Rattle.std.specs.declared.cmp.Ordering.{Ordering}
+use Rattle.std.specs.List.{cons_option, fold}
+use Rattle.std.specs.List.Sorted.{IsStrictlySortedBy}
+use Rattle.std.specs.Ordering.{is_eq}
+use Rattle.std.proofs.lemmas.Bool.{or_from}
+use Rattle.std.proofs.lemmas.Bool.Decides.{nat_tests}
+use Rattle.keys.specs.Order.{IsKeyOrder}
+use Rattle.stamps.specs.Stamp.{code_of}
+use Rattle.store.specs.Newest.{IsIn, IsOnlyAnswer, newest}
+use Rattle.store.specs.Page.{IsOnlyPage, page}
+use Rattle.store.specs.Versions.{IsSorted, has_id, id_cmp, with_version}
+use Rattle.store.specs.declared.version.Version.{Version}
+use Rattle.store.proofs.Adding.{sorted_with_version}
+use Rattle.store.proofs.InWords.{only_answer}
+use Rattle.store.proofs.PageInWords.{only_page}
+use Rattle.history.specs.Events.{Event, event_at, puts, version_of}
+use Rattle.history.proofs.Puts.{IsPutAt, of_put, put_at}
+use Rattle.history.proofs.SameVersions.{AreSameUpTo, answer_carries, page_carries, same_back}
+
+module _ {K : Type 0} where
+  -- its stamp is below that of each of these that has its node
+  abbrev pub IsEarlier : Version K → List (Version K) → Type 0
+  IsEarlier v ws = (w : Version K) → IsIn w ws → w.node ≡ v.node → v.stamp < w.stamp
+
+  -- along these versions the stamps of each node rise
+  abbrev pub AreRising : List (Version K) → Type 0
+  AreRising [] = Unit {0}
+  AreRising (v ∷ vs) = IsEarlier v vs × AreRising vs
+
+  module _ (order : K → K → Ordering) where
+    -- these versions, put one after another into a store that has some
+    abbrev pub recorded_onto : List (Version K) → List (Version K) → List (Version K)
+    recorded_onto ws vs = fold (λ ws v. with_version order v ws) ws vs
+
+    -- and into an empty one
+    abbrev pub recorded : List (Version K) → List (Version K)
+    recorded vs = recorded_onto [] vs
+
+    in_with : (u v : Version K) (ws : List (Version K)) → IsIn u (v ∷ ws) → IsIn u (with_version order v ws)
+    in_with u v [] is_in = is_in
+    in_with u v (w ∷ ws) is_in = let more = in_with u v ws in grind arith
+
+    from_with : (u v : Version K) (ws : List (Version K)) → IsIn u (with_version order v ws) → IsIn u (v ∷ ws)
+    from_with u v [] is_in = is_in
+    from_with u v (w ∷ ws) is_in = let more = from_with u v ws in grind arith
+
+    onto_there : (u : Version K) (vs ws : List (Version K)) → IsIn u vs ⊎ IsIn u ws → IsIn u (recorded_onto ws vs)
+    onto_there u [] ws is_in = grind arith
+    onto_there u (v ∷ vs) ws is_in = let more = onto_there u vs (with_version order v ws) in let first = in_with u v ws in grind arith
+
+    onto_back : (u : Version K) (vs ws : List (Version K)) → IsIn u (recorded_onto ws vs) → IsIn u vs ⊎ IsIn u ws
+    onto_back u [] ws is_in = inr is_in
+    onto_back u (v ∷ vs) ws is_in = let more = onto_back u vs (with_version order v ws) is_in in let first = from_with u v ws in grind arith
+
+    -- what is recorded is what was put in
+    pub recorded_there : (v : Version K) (vs : List (Version K)) → IsIn v vs → IsIn v (recorded vs)
+    recorded_there v vs is_in = onto_there v vs [] (inl is_in)
+
+    pub recorded_back : (v : Version K) (vs : List (Version K)) → IsIn v (recorded vs) → IsIn v vs
+    recorded_back v vs is_in = let back = onto_back v vs [] is_in in grind arith
+
+    pub recorded_same : (stamp : ℕ) (vs : List (Version K)) → AreSameUpTo stamp (recorded vs) vs
+    recorded_same stamp vs = record { there = λ v below. recorded_back v vs; back = λ v below. recorded_there v vs }
+
+    -- a version that is later than all of its node has a new key, stamp and node
+    other_id : (v w : Version K) → (w.node ≡ v.node → w.stamp < v.stamp) → is_eq (id_cmp order v w) ≡ false
+    other_id v w earlier = grind (arith, nat_tests)
+
+    no_id : (v : Version K) (ws : List (Version K)) → ((w : Version K) → IsIn w ws → w.node ≡ v.node → w.stamp < v.stamp) → has_id order v ws ≡ false
+    no_id v [] earlier = refl
+    no_id v (w ∷ ws) earlier = or_from _ _ (other_id v w (earlier w (inl refl))) (no_id v ws (λ u is_in. earlier u (inr is_in)))
+
+    module _ (total : IsTotalOrder order) where
+      onto_sorted : (vs ws : List (Version K)) → IsSorted order ws → AreRising vs → ((w : Version K) → IsIn w ws → IsEarlier w vs) → IsSorted order (recorded_onto ws vs)
+      onto_sorted [] ws sorted rising before = sorted
+      onto_sorted (v ∷ vs) ws sorted rising before =
+          let new = no_id v ws (λ w is_in same. before w is_in v (inl refl) (sym same)) in
+          onto_sorted vs (with_version order v ws) (sorted_with_version order total v ws sorted new) rising.1 (λ w is_in. elim (from_with w v ws is_in) [
+            | inl here ↦ subst (λ u. IsEarlier u vs) (sym here) rising.0
+            | inr there ↦ λ u behind. before w there u (inr behind)
+          ])
+
+      -- where the stamps of each node rise, what is recorded is in order
+      pub recorded_sorted : (vs : List (Version K)) → AreRising vs → IsSorted order (recorded vs)
+      unfolding IsStrictlySortedBy
+      recorded_sorted vs rising = onto_sorted vs [] tt rising (λ w is_in. elim is_in [ ])
+
+  -- along these events the stamps of each node rise
+  abbrev pub NodesRise : List (Event K) → Type 0
+  NodesRise events = (i j : ℕ) → i < j → j < length events → (event_at events i).node ≡ (event_at events j).node → code_of (event_at events i).stamp < code_of (event_at events j).stamp
+
+  earlier_than_put : (e : Event K) (events : List (Event K)) (v w : Version K) → NodesRise (e ∷ events) → version_of e e.what ≡ Some v → IsPutAt events w → w.node ≡ v.node → v.stamp < w.stamp
+  earlier_than_put e events v w rises is put same =
+      let first = of_put e e.what v is in
+      let second = of_put (event_at events put.place) (event_at events put.place).what w put.is in
+      let rise = rises 0 (suc put.place) (omega arith) (omega (arith, put.inside)) (sym first.node ∙ sym same ∙ second.node) in
+      omega (arith, first.stamp, second.stamp, rise)
+
+  rise_by : (e : Event K) (events : List (Event K)) (found : Option (Version K)) → version_of e e.what ≡ found → NodesRise (e ∷ events) → AreRising (puts events) → AreRising (cons_option found (puts events))
+  rise_by e events None none rises more = more
+  rise_by e events (Some v) some rises more = (λ w is_in. earlier_than_put e events v w rises some (put_at events w is_in), more)
+
+  pub puts_rise : (events : List (Event K)) → NodesRise events → AreRising (puts events)
+  puts_rise [] rises = tt
+  puts_rise (e ∷ events) rises = rise_by e events (version_of e e.what) refl rises (puts_rise events (λ i j before inside. rises (suc i) (suc j) (omega (arith, before)) (omega (arith, inside))))
+
+  module _ (order : K → K → Ordering) (total : IsTotalOrder order) (law : IsKeyOrder order) (events : List (Event K)) (rises : NodesRise events) where
+    pub one_answer : (key : K) (stamp : ℕ) → (answer : Option (Version K)) × IsOnlyAnswer (puts events) key stamp answer
+    one_answer key stamp =
+        let same = recorded_same order stamp (puts events) in
+        let found = only_answer order total law (recorded order (puts events)) key stamp (recorded_sorted order total (puts events) (puts_rise events rises)) _ refl in
+        (newest order (recorded order (puts events)) key stamp, record { answers = answer_carries same key _ found.answers; only = λ other is. found.only other (answer_carries (same_back same) key other is) })
+
+    pub one_page : (stamp : ℕ) → (rows : List (Version K)) × IsOnlyPage order (puts events) stamp rows
+    one_page stamp =
+        let same = recorded_same order stamp (puts events) in
+        let found = only_page order total law (recorded order (puts events)) stamp (recorded_sorted order total (puts events) (puts_rise events rises)) in
+        (page order (recorded order (puts events)) stamp, record { is = page_carries order same _ found.is; only = λ other is. found.only other (page_carries order (same_back same) other is) })

@@ -1,10 +1,12 @@
 -- What single steps say of an event's stamp, all that happened before it says too: its time is the largest reading, its counter
 -- the length of the longest chain, and it is later.
 use Rattle.std.proofs.Common.{◌≡◌, ℕ, zero, suc, ◌+◌, ◌<◌, ◌≤◌, ◌⊎◌, inl, inr, List, [], ◌∷◌, ◌++◌, length, refl, sym, ap, ◌∙◌, subst, arith}
+use Rattle.std.proofs.lemmas.List.{length_push}
 use Rattle.stamps.specs.Stamp.{Timestamp}
 use Rattle.store.specs.Newest.{IsIn}
 use Rattle.history.specs.Before.{HappenedBefore, InMoreSteps, InOneStep, IsChain, IsChainTo, IsLargestReading, IsLongestChain, IsStep, IsUpTo}
 use Rattle.history.specs.Events.{Event, event_at}
+use Rattle.history.proofs.Lists.{from_append}
 use Rattle.history.proofs.Places.{before_less, before_to, step_less, step_to}
 
 -- t has a larger time than s, or the same and a larger counter
@@ -33,15 +35,13 @@ pub record Follows {K : Type 0} (events : List (Event K)) (j : ℕ) : Type 0 whe
       ⊎ ((i : ℕ) × IsStep events i j × ((event_at events i).stamp.time ≡ (event_at events j).stamp.time)
           × ((event_at events j).stamp.counter ≡ suc (event_at events i).stamp.counter))
 
+-- what is in a list with one more at its end
 in_end : {X : Type 0} (x y : X) (xs : List X) → IsIn x (xs ++ y ∷ []) → IsIn x xs ⊎ (x ≡ y)
-in_end x y [] (inl here) = inr here
-in_end x y [] (inr there) = elim there [ ]
-in_end x y (z ∷ xs) (inl here) = inl (inl here)
-in_end x y (z ∷ xs) (inr there) = elim (in_end x y xs there) [ | inl more ↦ inl (inr more) | inr last ↦ inr last ]
-
-length_end : {X : Type 0} (xs : List X) (y : X) → length (xs ++ y ∷ []) ≡ suc (length xs)
-length_end [] y = refl
-length_end (x ∷ xs) y = ap suc (length_end xs y)
+in_end x y xs is_in = elim (from_append x xs (y ∷ []) is_in) [
+  | inl first ↦ inl first
+  | inr (inl last) ↦ inr last
+  | inr (inr none) ↦ elim none [ ]
+]
 
 module _ {K : Type 0} (events : List (Event K)) where
   -- a chain goes on with an event that happened after all of it
@@ -100,7 +100,7 @@ module _ {K : Type 0} (events : List (Event K)) where
                | inr last ↦ ap (λ k. (event_at events k).stamp.time) last ∙ from.2
              ];
            },
-           length_end found.0 from.0 ∙ ap suc found.2 ∙ sym from.3)
+           omega (arith, length_push found.0 from.0, found.2, from.3))
     ]
 
     -- counters rise along a chain

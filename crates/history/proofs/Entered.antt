@@ -11,7 +11,7 @@ use Rattle.stamps.specs.Stamp.{Timestamp, code_of, zero_stamp}
 use Rattle.history.specs.Before.{ByMessage, HappenedBefore, IsLastSend, IsStep, OnOneNode}
 use Rattle.history.specs.Entering.{AreEntered, IsReceiptStamp, IsStamped, MayEnter, Setup, last_stamp}
 use Rattle.history.specs.Events.{Event, Note, Put, Receipt, Send, What, event_at}
-use Rattle.history.proofs.Places.{at_in, at_take, before_less, before_to, inside_take, step_less}
+use Rattle.history.proofs.Places.{at_in, at_take, before_less, before_to, inside_take, last_send_once, step_less}
 use Rattle.history.proofs.Chains.{Follows, IsLater, later, later_through}
 
 -- An own stamp is that of a receipt of one's own last stamp, so there is one rule.
@@ -107,13 +107,6 @@ module _ {K : Type 0} where
         ⊎ ((i : ℕ) × IsStep events i j × ((event_at events i).stamp ≡ sent) × (sent.time ≤ (event_at events j).reading + lead))
     pub of_message : (number i : ℕ) → (event_at events j).what ≡ Receipt number → IsLastSend (take j events) number i → (event_at events i).stamp ≡ sent
 
-  only_last_send : (events : List (Event K)) (number i k : ℕ) → IsLastSend events number i → IsLastSend events number k → i ≡ k
-  only_last_send events number i k last last′ = elim (cases_order i k) [
-    | inl same ↦ same
-    | inr (inl less) ↦ absurd (last.none_behind k less last′.inside last′.sends)
-    | inr (inr more) ↦ absurd (last′.none_behind i more last.inside last.sends)
-  ]
-
   own_is_ruled : (lead : ℕ) (events : List (Event K)) (j : ℕ) → ((number : ℕ) → (event_at events j).what ≡ Receipt number → ⊥)
       → (event_at events j).stamp ≡ own_stamp (last_stamp (take j events) (event_at events j).node) (event_at events j).reading → IsRuled lead events j
   own_is_ruled lead events j no_receipt stamped = record {
@@ -134,7 +127,7 @@ module _ {K : Type 0} where
         source = inr (stamped.place, ByMessage number inside receipt stamped.last_send, ap (λ e. e.stamp) (sym same), stamped.not_ahead);
         of_message = λ other i receipt′ last.
             let numbers : other ≡ number = cc (receipt, receipt′) in
-            let places : i ≡ stamped.place = only_last_send (take j events) number i stamped.place (subst (λ n. IsLastSend (take j events) n i) numbers last) stamped.last_send in
+            let places : i ≡ stamped.place = last_send_once (subst (λ n. IsLastSend (take j events) n i) numbers last) stamped.last_send in
             ap (λ k. (event_at events k).stamp) places ∙ ap (λ e. e.stamp) (sym same);
       }
 

@@ -1,5 +1,6 @@
 -- Places of events.
 use Rattle.std.proofs.Common.{◌≡◌, ℕ, zero, suc, ◌<◌, ◌≤◌, inl, inr, List, [], ◌∷◌, length, refl, sym, ◌∙◌, arith}
+use Rattle.std.proofs.lemmas.Bool.{cases_order}
 use Rattle.std.proofs.lemmas.List.{get_or-take, length-take-le}
 use Rattle.std.specs.Prelude.{take}
 use Rattle.stamps.specs.Stamp.{zero_stamp}
@@ -20,6 +21,15 @@ module _ {K : Type 0} where
   inside_take events n place before within = omega (arith, before, length-take-le n events within)
 
 module _ {K : Type 0} {events : List (Event K)} where
+  -- a number has one last send
+  pub last_send_once : {number i j : ℕ} → IsLastSend events number i → IsLastSend events number j → i ≡ j
+  last_send_once {i = i} {j = j} first second = elim (cases_order i j) [
+    | inl same ↦ same
+    | inr (inl less) ↦ absurd (first.none_behind j less second.inside second.sends)
+    | inr (inr more) ↦ absurd (second.none_behind i more first.inside first.sends)
+  ]
+
+  -- steps lead to later places
   pub step_to : {i j : ℕ} → IsStep events i j → j < length events
   step_to (OnOneNode before inside same) = inside
   step_to (ByMessage number inside receipt last) = inside

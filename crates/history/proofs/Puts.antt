@@ -1,5 +1,5 @@
 -- What is among the puts of events.
-use Rattle.std.proofs.Common.{◌≡◌, ℕ, zero, suc, ◌<◌, ◌⊎◌, inl, inr, List, [], ◌∷◌, ◌++◌, length, Some, None, Option, refl, sym, ap, ◌∙◌, arith}
+use Rattle.std.proofs.Common.{◌≡◌, ℕ, zero, suc, ◌<◌, inl, inr, List, [], ◌∷◌, ◌++◌, length, Some, None, Option, refl, sym, ap, ◌∙◌, arith}
 use Rattle.std.specs.List.{cons_option}
 use Rattle.std.proofs.lemmas.List.Elements.{filter_map-append}
 use Rattle.stamps.specs.Stamp.{code_of}
@@ -8,19 +8,8 @@ use Rattle.store.specs.declared.version.Version.{Version}
 use Rattle.store.proofs.InWords.{some_or_none}
 use Rattle.history.specs.Events.{Event, Note, Put, Receipt, Send, What, event_at, puts, version_of}
 
--- what is in two joined lists is in one of them, and the other way round
-module _ {X : Type 0} (x : X) where
-  pub from_append : (xs ys : List X) → IsIn x (xs ++ ys) → IsIn x xs ⊎ IsIn x ys
-  from_append [] ys is_in = inr is_in
-  from_append (z ∷ xs) ys is_in = let more = from_append xs ys in grind arith
-
-  pub in_append : (xs ys : List X) → IsIn x xs ⊎ IsIn x ys → IsIn x (xs ++ ys)
-  in_append [] ys is_in = grind arith
-  in_append (z ∷ xs) ys is_in = let more = in_append xs ys in grind arith
-
 -- v is the version of an event that did this
 pub record IsOfPut {K : Type 0} (e : Event K) (what : What K) (v : Version K) : Type 0 where
-  pub put : what ≡ Put v.key v.value
   pub stamp : v.stamp ≡ code_of e.stamp
   pub node : v.node ≡ e.node
 
@@ -28,7 +17,7 @@ pub of_put : {K : Type 0} (e : Event K) (what : What K) (v : Version K) → vers
 of_put e Note v is = absurd (some_or_none (sym is))
 of_put e (Send number) v is = absurd (some_or_none (sym is))
 of_put e (Receipt number) v is = absurd (some_or_none (sym is))
-of_put e (Put key value) v is = record { put = cc is; stamp = cc is; node = cc is }
+of_put e (Put key value) v is = record { stamp = cc is; node = cc is }
 
 -- v was put by the event at a place
 pub record IsPutAt {K : Type 0} (events : List (Event K)) (v : Version K) : Type 0 where

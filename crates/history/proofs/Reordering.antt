@@ -1,26 +1,14 @@
 -- Two orders of the same events have the same stamps.
 use Rattle.std.proofs.Common.{◌≡◌, ℕ, ◌<◌, ◌≤◌, ◌⊎◌, inl, inr, List, [], ◌∷◌, length, map, take, refl, sym, ap, ◌∙◌, subst, arith}
 use Rattle.std.proofs.lemmas.Bool.{cases_order}
-use Rattle.std.proofs.lemmas.List.{get_or-take, length-map, length-take-le}
+use Rattle.std.proofs.lemmas.List.{length-map, length-take-le}
 use Rattle.store.specs.Newest.{IsIn}
 use Rattle.history.specs.Before.{ByMessage, HappenedBefore, InMoreSteps, InOneStep, IsChain, IsChainTo, IsLargestReading, IsLastSend, IsLongestChain, IsStep, IsUpTo, OnOneNode}
 use Rattle.history.specs.Entering.{AreEntered, IsReceiptStamp, IsStamped, Setup}
 use Rattle.history.specs.Events.{Event, Receipt, Send, event_at}
+use Rattle.history.proofs.Lists.{of_map}
+use Rattle.history.proofs.Places.{at_take, before_less, before_to, last_send_once}
 use Rattle.history.specs.Unique.{AreSentOnce, IsReordering, KeepsMessages}
-
--- what holds of f x for each x in a list holds of each y in the list that f makes of it
-of_map : (P : ℕ → Type 0) (f : ℕ → ℕ) (xs : List ℕ) → ((x : ℕ) → IsIn x xs → P (f x)) → (y : ℕ) → IsIn y (map f xs) → P y
-of_map P f [] each y is_in = elim is_in [ ]
-of_map P f (x ∷ xs) each y (inl here) = subst P (sym here) (each x (inl refl))
-of_map P f (x ∷ xs) each y (inr there) = of_map P f xs (λ z is_in. each z (inr is_in)) y there
-
--- a number has one last send
-last_send_once : {K : Type 0} {events : List (Event K)} {number i j : ℕ} → IsLastSend events number i → IsLastSend events number j → i ≡ j
-last_send_once {i = i} {j = j} first second = elim (cases_order i j) [
-  | inl same ↦ same
-  | inr (inl less) ↦ absurd (first.none_behind j less second.inside second.sends)
-  | inr (inr more) ↦ absurd (second.none_behind i more first.inside first.sends)
-]
 
 module _ {K : Type 0} (events : List (Event K)) where
   -- each event's time is the largest reading up to it
@@ -35,19 +23,7 @@ module _ {K : Type 0} (events : List (Event K)) where
   earlier_send : (j : ℕ) {number i : ℕ} → j < length events → IsLastSend (take j events) number i → (i < j) × ((event_at events i).what ≡ Send number)
   earlier_send j {number} {i} inside last =
       let less : i < j = omega (arith, last.inside, length-take-le j events) in
-      (less, ap (λ e. e.what) (sym (get_or-take j events i _ less)) ∙ last.sends)
-
-  -- one step leads to a later event of the list, and so do several
-  step_less : (i j : ℕ) → IsStep events i j → (i < j) × (j < length events)
-  step_less i j (OnOneNode less inside same) = (less, inside)
-  step_less i j (ByMessage number inside is last) = ((earlier_send j inside last).0, inside)
-
-  before_less : (i j : ℕ) → HappenedBefore events i j → (i < j) × (j < length events)
-  before_less i j (InOneStep step) = step_less i j step
-  before_less i j (InMoreSteps {j = k} before step) =
-      let first = before_less i k before in
-      let last = step_less k j step in
-      (omega arith, last.1)
+      (less, ap (λ e. e.what) (sym (at_take events j i less)) ∙ last.sends)
 
   -- an entered receipt has the stamp of one
   receipt_of : {setup : Setup} (j number : ℕ) → AreEntered setup events → j < length events → (event_at events j).what ≡ Receipt number
@@ -120,7 +96,7 @@ module _ {K : Type 0} {one other : List (Event K)} {to from : ℕ → ℕ} (move
     -- a time is no larger than the time there
     up_to_there : (i j : ℕ) → j < length one → IsUpTo one i j → (i < length one) × IsUpTo other (to i) (to j)
     up_to_there i j inside (inl same) = (omega (arith, same), inl (ap to same))
-    up_to_there i j inside (inr before) = let less = before_less one i j before in (omega arith, inr (before_there i j before))
+    up_to_there i j inside (inr before) = (omega (arith, before_less before, inside), inr (before_there i j before))
 
     time_at_most : AreTimed one → AreTimed other → (j : ℕ) → j < length one → (event_at one j).stamp.time ≤ (event_at other (to j)).stamp.time
     time_at_most times other_times j inside =
@@ -140,8 +116,8 @@ module _ {K : Type 0} {one other : List (Event K)} {to from : ℕ → ℕ} (move
         is_chain = chain_there chain is.is_chain;
         before = of_map (λ i. HappenedBefore other i (to j)) to chain (λ i is_in. before_there i j (is.before i is_in));
         of_its_time = of_map (λ i. (event_at other i).stamp.time ≡ (event_at other (to j)).stamp.time) to chain (λ i is_in.
-            let less = before_less one i j (is.before i is_in) in
-            times i (omega arith) ∙ is.of_its_time i is_in ∙ sym (times j less.1));
+            let before = is.before i is_in in
+            times i (omega (arith, before_less before, before_to before)) ∙ is.of_its_time i is_in ∙ sym (times j (before_to before)));
       }
 
       counter_at_most : AreCounted one → AreCounted other → (j : ℕ) → j < length one → (event_at one j).stamp.counter ≤ (event_at other (to j)).stamp.counter

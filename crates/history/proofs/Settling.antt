@@ -15,15 +15,9 @@ use Rattle.history.specs.History.{Closed, Cut, Entered, Entry, IsHistory, IsSett
 use Rattle.history.specs.Settling.{LeavesAnswers, SettledStays}
 use Rattle.history.proofs.Entered.{higher, last_is, not_early}
 use Rattle.history.proofs.Entries.{are_entered, event_at-earlier, events_of-append, placed}
-use Rattle.history.proofs.Puts.{from_append, in_append, put_at, put_in, puts-append}
+use Rattle.history.proofs.Lists.{in_append}
+use Rattle.history.proofs.Puts.{of_put, put_at, put_in, puts-append}
 use Rattle.history.proofs.SameVersions.{AreSameUpTo, answers_alike, pages_alike}
-
--- a put's version has its event's code
-put_stamp : {K : Type 0} (e : Event K) (what : What K) (v : Version K) → version_of e what ≡ Some v → v.stamp ≡ code_of e.stamp
-put_stamp e (Put key value) v is = cc is
-put_stamp e Note v is = cc is
-put_stamp e (Send number) v is = cc is
-put_stamp e (Receipt number) v is = cc is
 
 module _ {K : Type 0} {setup : Setup} (earlier later : List (Event K)) (entered : AreEntered setup (earlier ++ later)) where
   node_higher : (i j : ℕ) → i < j → j < length (earlier ++ later) → (event_at (earlier ++ later) i).node ≡ (event_at (earlier ++ later) j).node
@@ -74,7 +68,7 @@ module _ {K : Type 0} {setup : Setup} (earlier later : List (Event K)) (entered 
           | inr behind ↦
               let e = event_at (earlier ++ later) put.place in
               let above = above_last e.node stamp (passed e.node (entered put.place put.inside).node) put.place behind put.inside refl in
-              absurd (omega (arith, below, above, put_stamp e e.what v put.is))
+              absurd (omega (arith, below, above, (of_put e e.what v put.is).stamp))
         ]
 
     pub same_puts : AreSameUpTo stamp (puts earlier) (puts (earlier ++ later))

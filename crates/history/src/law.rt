@@ -17,7 +17,6 @@ pub fn law_holds<K: KeyKind>() -> bool
 }
 
 // Whether no later entry changes an answer at a settled stamp.
-#[tactic(auto, using(crate::proofs::Settling::leaves_answers))]
 pub fn settled_stays<K: KeyKind>() -> bool
     ensures answer { result ≡ true }
     ensures stays { SettledStays K.cmp }

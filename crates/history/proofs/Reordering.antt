@@ -4,7 +4,7 @@ use Rattle.std.proofs.lemmas.Bool.{cases_order}
 use Rattle.std.proofs.lemmas.List.{length-map, length-take-le}
 use Rattle.store.specs.Newest.{IsIn}
 use Rattle.history.specs.Before.{ByMessage, HappenedBefore, InMoreSteps, InOneStep, IsChain, IsChainTo, IsLargestReading, IsLastSend, IsLongestChain, IsStep, IsUpTo, OnOneNode}
-use Rattle.history.specs.Entering.{AreEntered, IsReceiptStamp, IsStamped, Setup}
+use Rattle.history.specs.History.{AreEntered, IsReceiptStamp, IsStamped, Setup}
 use Rattle.history.specs.Events.{Event, Receipt, Send, event_at}
 use Rattle.history.proofs.Lists.{of_map}
 use Rattle.history.proofs.Places.{at_take, before_less, before_to, last_send_once}

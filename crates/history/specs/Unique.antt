@@ -5,7 +5,7 @@ use Rattle.store.specs.Newest.{IsOnlyAnswer, IsReadAnswer}
 use Rattle.store.specs.Page.{IsOnlyPage, IsPage}
 use Rattle.store.specs.declared.version.Version.{Version}
 use Rattle.history.specs.Before.{IsLastSend}
-use Rattle.history.specs.Entering.{AreEntered, Setup}
+use Rattle.history.specs.History.{AreEntered, Setup}
 use Rattle.history.specs.Events.{Event, Receipt, Send, event_at, puts}
 
 -- at each stamp there is exactly one answer to a read of a key

@@ -1,8 +1,7 @@
 // The law of whole runs.
 ghost use Rattle.std.specs.Prelude.{◌≡◌, true};
 ghost use Rattle.history.specs.Examples.{EachClauseBites, IsRun};
-ghost use Rattle.history.specs.Law.{Law};
-ghost use Rattle.history.specs.Settling.{AllSettledWhenClosed, SettledStays};
+ghost use Rattle.history.specs.Law.{AllSettledWhenClosed, Law, SettledStays};
 ghost use Rattle.history.specs.Unique.{OneAnswer, OnePage, OneStamping};
 
 use keys::kind::KeyKind;

@@ -1,0 +1,37 @@
+-- Places of events.
+use Rattle.std.proofs.Common.{◌≡◌, ℕ, zero, suc, ◌<◌, ◌≤◌, inl, inr, List, [], ◌∷◌, length, refl, sym, ◌∙◌, arith}
+use Rattle.std.proofs.lemmas.List.{get_or-take, length-take-le}
+use Rattle.std.specs.Prelude.{take}
+use Rattle.stamps.specs.Stamp.{zero_stamp}
+use Rattle.store.specs.Newest.{IsIn}
+use Rattle.history.specs.Before.{HappenedBefore, InMoreSteps, InOneStep, IsLastSend, IsStep, ByMessage, OnOneNode}
+use Rattle.history.specs.Events.{Event, Note, event_at}
+
+module _ {K : Type 0} where
+  pub at_in : (events : List (Event K)) (place : ℕ) → place < length events → IsIn (event_at events place) events
+  at_in [] place inside = absurd (omega (arith, inside))
+  at_in (e ∷ events) zero inside = inl refl
+  at_in (e ∷ events) (suc place) inside = inr (at_in events place (omega (arith, inside)))
+
+  pub at_take : (events : List (Event K)) (n place : ℕ) → place < n → event_at (take n events) place ≡ event_at events place
+  at_take events n place before = get_or-take n events place (record { node = 0; reading = 0; stamp = zero_stamp; what = Note }) before
+
+  pub inside_take : (events : List (Event K)) (n place : ℕ) → place < n → n ≤ length events → place < length (take n events)
+  inside_take events n place before within = omega (arith, before, length-take-le n events within)
+
+module _ {K : Type 0} {events : List (Event K)} where
+  pub step_to : {i j : ℕ} → IsStep events i j → j < length events
+  step_to (OnOneNode before inside same) = inside
+  step_to (ByMessage number inside receipt last) = inside
+
+  pub step_less : {i j : ℕ} → IsStep events i j → i < j
+  step_less (OnOneNode before inside same) = before
+  step_less {j} (ByMessage number inside receipt last) = omega (arith, last.inside, inside, length-take-le j events (omega (arith, inside)))
+
+  pub before_to : {i j : ℕ} → HappenedBefore events i j → j < length events
+  before_to (InOneStep step) = step_to step
+  before_to (InMoreSteps before step) = step_to step
+
+  pub before_less : {i j : ℕ} → HappenedBefore events i j → i < j
+  before_less (InOneStep step) = step_less step
+  before_less (InMoreSteps before step) = omega (arith, before_less before, step_less step)

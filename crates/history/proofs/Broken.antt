@@ -4,26 +4,30 @@ use Rattle.std.specs.declared.cmp.Ordering.{Ordering}
 use Rattle.std.specs.List.{list_any}
 use Rattle.std.specs.List.Sorted.{IsStrictlySortedBy}
 use Rattle.std.proofs.Math.Dec.{lit<, lit≤}
-use Rattle.std.proofs.lemmas.List.{length-take}
+use Rattle.std.proofs.lemmas.Bool.{cases_lt}
+use Rattle.std.proofs.lemmas.List.{append_assoc, get_or_at, length_push}
+use Rattle.std.proofs.lemmas.List.Elements.{filter_map-append}
 use Rattle.store.specs.Newest.{IsIn, IsReadAnswer}
 use Rattle.store.specs.Page.{IsPage}
 use Rattle.history.specs.Before.{HappenedBefore, InMoreSteps, InOneStep, IsChainTo, IsLargestReading, IsLongestChain, IsStep, OnOneNode, ByMessage}
-use Rattle.history.specs.Events.{Event, event_at, puts}
+use Rattle.history.specs.Events.{Event, Note, event_at, puts}
 use Rattle.history.specs.Examples.{BreaksOnly, EachClauseBites, broken, first_put, notes, small_setup}
-use Rattle.history.specs.History.{Closed, Cut, Entered, Entry, Read, events_of}
+use Rattle.history.specs.History.{Closed, Cut, Entered, Entry, Read, event_of, events_of}
 use Rattle.history.specs.Law.{Clause, Counter, Cuts, Holds, Lead, Order, Reads, Time}
+use Rattle.history.proofs.Chains.{Follows, IsLater}
 use Rattle.history.proofs.Example.{none_passes}
+use Rattle.history.proofs.Places.{before_less, before_to, step_less}
+
+each_other : (P : Clause → Type 0) (clause : Clause) → (Time ≢ clause → P Time) → (Lead ≢ clause → P Lead) → (Counter ≢ clause → P Counter) → (Order ≢ clause → P Order) → (Reads ≢ clause → P Reads) → (Cuts ≢ clause → P Cuts)
+    → (other : Clause) → other ≢ clause → P other
+each_other P clause time lead counter order reads cuts Time = time
+each_other P clause time lead counter order reads cuts Lead = lead
+each_other P clause time lead counter order reads cuts Counter = counter
+each_other P clause time lead counter order reads cuts Order = order
+each_other P clause time lead counter order reads cuts Reads = reads
+each_other P clause time lead counter order reads cuts Cuts = cuts
 
 module _ {K : Type 0} where
-  -- what happened before an event stands before it
-  step_less : (events : List (Event K)) (i j : ℕ) → IsStep events i j → (i < j) × (j < length events)
-  step_less events i j (OnOneNode before inside node) = (before, inside)
-  step_less events i j (ByMessage number inside what last) = (omega (arith, last.inside, length-take j events), inside)
-
-  before_less : (events : List (Event K)) (i j : ℕ) → HappenedBefore events i j → (i < j) × (j < length events)
-  before_less events i j (InOneStep step) = step_less events i j step
-  before_less events i j (InMoreSteps {j = k} before step) = let less = before_less events i k before in let last = step_less events k j step in (omega (arith, less.0, last.0), last.1)
-
   abbrev is_read : Entry K → Bool
   is_read (Read key stamp answer) = true
   is_read Closed = false
@@ -50,15 +54,15 @@ module _ {K : Type 0} where
     Says e history Lead = e.stamp.time ≤ e.reading + 500 + 20
     Says e history Counter = e.stamp.counter ≡ 0
     Says e history Order = Unit {0}
-    Says e history Reads = Holds order small_setup history Reads
-    Says e history Cuts = Holds order small_setup history Cuts
+    Says e history Reads = list_any is_read history ≡ false
+    Says e history Cuts = list_any is_cut history ≡ false
 
     first : (j : ℕ) → j < 1 → j ≡ 0
     first j below = omega arith
 
     module _ (e : Event K) where
       never : {A : Type 0} (i j : ℕ) → HappenedBefore (e ∷ []) i j → A
-      never i j before = let less = before_less (e ∷ []) i j before in absurd (omega (arith, less.0, less.1))
+      never i j before = absurd (omega (arith, before_less before, before_to before))
 
       largest : IsLargestReading (e ∷ []) 0 e.reading
       largest = record {
@@ -85,19 +89,47 @@ module _ {K : Type 0} where
         none_longer = λ chain to. omega (arith, none_before chain to);
       }
 
-      module _ (history : List (Entry K)) (is : events_of history ≡ e ∷ []) where
-        says : (clause : Clause) → Holds order small_setup history clause → Says e history clause
-        says Time holds = largest_is e.stamp.time (rw is at holds 0 (rw is (lit< tt)))
-        says Lead holds = ?
-        says Counter holds = ?
-        says Order holds = tt
-        says Reads holds = holds
-        says Cuts holds = holds
+      longest_is : (n : ℕ) → IsLongestChain (e ∷ []) 0 n → n ≡ 0
+      longest_is n is = sym is.one.2 ∙ none_before is.one.0 is.one.1
 
-        holds : (clause : Clause) → Says e history clause → Holds order small_setup history clause
-        holds Time says = rw is (λ j below. rw (first j below) (subst (IsLargestReading (e ∷ []) 0) says largest))
-        holds Lead says = rw is (λ j below. rw (first j below) says)
-        holds Counter says = rw is (λ j below. rw (first j below) (subst (IsLongestChain (e ∷ []) 0) (sym says) longest))
-        holds Order says = rw is (λ i j before. never i j before)
-        holds Reads says = says
-        holds Cuts says = says
+      holds : (history : List (Entry K)) → events_of history ≡ e ∷ [] → (clause : Clause) → Says e history clause → Holds order small_setup history clause
+      holds history is Time says = rw is (λ j below. rw (first j below) (subst (IsLargestReading (e ∷ []) 0) says largest))
+      holds history is Lead says = rw is (λ j below. rw (first j below) says)
+      holds history is Counter says = rw is (λ j below. rw (first j below) (subst (IsLongestChain (e ∷ []) 0) (sym says) longest))
+      holds history is Order says = rw is (λ i j before. never i j before)
+      holds history is Reads says = no_reads history says
+      holds history is Cuts says = no_cuts history says
+
+      breaks : (history : List (Entry K)) → events_of history ≡ e ∷ [] → (clause : Clause) → (Holds order small_setup history clause → ⊥)
+          → ((other : Clause) → other ≢ clause → Says e history other) → BreaksOnly order history clause
+      breaks history is clause not others = record { broken = not; others = λ other differs. holds history is other (others other differs) }
+
+  -- the events of notes and what is behind them
+  abbrev note : ℕ → Event K
+  note i = record { node = 0; reading = 1000; stamp = record { time = 1000; counter = i }; what = Note }
+
+  count : (n : ℕ) → length (events_of {K = K} (notes n)) ≡ n
+  count zero = refl
+  count (suc n) = rw (filter_map-append, length_push, count) (omega arith)
+
+  at_end : (n : ℕ) (e : Event K) (rest : List (Entry K)) → event_at (events_of (notes n ++ Entered e ∷ rest)) n ≡ e
+  at_end n e rest = rw filter_map-append (get_or_at _ _ _ _ n (count n))
+
+  at_note : (n i : ℕ) (rest : List (Entry K)) → i < n → event_at (events_of (notes n ++ rest)) i ≡ note i
+  at_note zero i rest below = absurd (omega arith)
+  at_note (suc n) i rest below = rw append_assoc (elim (cases_lt i n) [
+    | inl less ↦ at_note n i _ less
+    | inr last ↦ ?
+  ])
+
+  each : (order : K → K → Ordering) → EachClauseBites order
+  each order key Time = breaks order _ (broken key Time) refl Time (λ h. omega (arith, largest_is order _ 1001 (h 0 (lit< tt))))
+      (each_other _ Time (λ is. absurd (is refl)) (λ is. lit≤ tt) (λ is. refl) (λ is. tt) (λ is. refl) (λ is. refl))
+  each order key Counter = breaks order _ (broken key Counter) refl Counter (λ h. omega (arith, longest_is order _ 1 (h 0 (lit< tt))))
+      (each_other _ Counter (λ is. refl) (λ is. lit≤ tt) (λ is. absurd (is refl)) (λ is. tt) (λ is. refl) (λ is. refl))
+  each order key Reads = breaks order _ (broken key Reads) refl Reads (λ h. omega (arith, h key 65536000 None (inr (inl refl)) (first_put key) (inl refl) refl))
+      (each_other _ Reads (λ is. refl) (λ is. lit≤ tt) (λ is. refl) (λ is. tt) (λ is. absurd (is refl)) (λ is. refl))
+  each order key Cuts = breaks order _ (broken key Cuts) refl Cuts (λ h. elim ((h 65536000 [] (inr (inl refl))).complete (first_put key) (inl refl) (lit≤ tt)).1 [ ])
+      (each_other _ Cuts (λ is. refl) (λ is. lit≤ tt) (λ is. refl) (λ is. tt) (λ is. refl) (λ is. absurd (is refl)))
+  each order key Lead = ?
+  each order key Order = ?

@@ -1,5 +1,5 @@
 -- For each clause of the law, entries that break it alone.
-use Rattle.std.proofs.Common.{◌≡◌, ◌≢◌, ℕ, suc, zero, ◌+◌, ◌<◌, ◌≤◌, ◌⊎◌, ◌++◌, inl, inr, Bool, true, false, List, [], ◌∷◌, length, take, Some, None, refl, sym, ap, ◌∙◌, subst, arith}
+use Rattle.std.proofs.Common.{◌≡◌, ◌≢◌, ℕ, suc, zero, ◌+◌, ◌-◌, ◌<◌, ◌≤◌, ◌⊎◌, ◌++◌, inl, inr, Bool, true, false, List, [], ◌∷◌, length, take, Some, None, refl, sym, ap, ◌∙◌, subst, arith}
 use Rattle.std.specs.declared.cmp.Ordering.{Ordering}
 use Rattle.std.specs.List.{list_any}
 use Rattle.std.specs.List.Sorted.{IsStrictlySortedBy}
@@ -11,10 +11,11 @@ use Rattle.store.specs.Newest.{IsIn, IsReadAnswer}
 use Rattle.store.specs.Page.{IsPage}
 use Rattle.history.specs.Before.{HappenedBefore, InMoreSteps, InOneStep, IsChainTo, IsLargestReading, IsLongestChain, IsStep, OnOneNode, ByMessage}
 use Rattle.history.specs.Events.{Event, Note, event_at, puts}
-use Rattle.history.specs.Examples.{BreaksOnly, EachClauseBites, broken, first_put, notes, small_setup}
+use Rattle.history.specs.Examples.{BreaksOnly, entered, EachClauseBites, broken, first_put, notes, small_setup}
 use Rattle.history.specs.History.{Closed, Cut, Entered, Entry, Read, event_of, events_of}
 use Rattle.history.specs.Law.{Clause, Counter, Cuts, Holds, Lead, Order, Reads, Time}
-use Rattle.history.proofs.Chains.{Follows, IsLater}
+use Rattle.history.proofs.Chains as chains
+use Rattle.history.proofs.Chains.{Follows}
 use Rattle.history.proofs.Example.{none_passes}
 use Rattle.history.proofs.Places.{before_less, before_to, step_less}
 
@@ -26,6 +27,9 @@ each_other P clause time lead counter order reads cuts Counter = counter
 each_other P clause time lead counter order reads cuts Order = order
 each_other P clause time lead counter order reads cuts Reads = reads
 each_other P clause time lead counter order reads cuts Cuts = cuts
+
+first : (j : ℕ) → j < 1 → j ≡ 0
+first j below = omega arith
 
 module _ {K : Type 0} where
   abbrev is_read : Entry K → Bool
@@ -56,9 +60,6 @@ module _ {K : Type 0} where
     Says e history Order = Unit {0}
     Says e history Reads = list_any is_read history ≡ false
     Says e history Cuts = list_any is_cut history ≡ false
-
-    first : (j : ℕ) → j < 1 → j ≡ 0
-    first j below = omega arith
 
     module _ (e : Event K) where
       never : {A : Type 0} (i j : ℕ) → HappenedBefore (e ∷ []) i j → A
@@ -108,19 +109,79 @@ module _ {K : Type 0} where
   abbrev note : ℕ → Event K
   note i = record { node = 0; reading = 1000; stamp = record { time = 1000; counter = i }; what = Note }
 
-  count : (n : ℕ) → length (events_of {K = K} (notes n)) ≡ n
-  count zero = refl
-  count (suc n) = rw (filter_map-append, length_push, count) (omega arith)
+  count : (n : ℕ) (rest : List (Entry K)) → length (events_of (notes n ++ rest)) ≡ n + length (events_of rest)
+  count zero rest = omega arith
+  count (suc n) rest = rw append_assoc (omega (arith, count n (Entered (note n) ∷ rest)))
 
-  at_end : (n : ℕ) (e : Event K) (rest : List (Entry K)) → event_at (events_of (notes n ++ Entered e ∷ rest)) n ≡ e
-  at_end n e rest = rw filter_map-append (get_or_at _ _ _ _ n (count n))
+  behind : (n i place : ℕ) (rest : List (Entry K)) → place ≡ n + i → event_at (events_of (notes n ++ rest)) place ≡ event_at (events_of rest) i
+  behind zero i place rest is = ap (event_at (events_of rest)) (omega (arith, is))
+  behind (suc n) i place rest is = rw append_assoc (behind n (suc i) place (Entered (note n) ∷ rest) (omega (arith, is)))
 
   at_note : (n i : ℕ) (rest : List (Entry K)) → i < n → event_at (events_of (notes n ++ rest)) i ≡ note i
   at_note zero i rest below = absurd (omega arith)
   at_note (suc n) i rest below = rw append_assoc (elim (cases_lt i n) [
-    | inl less ↦ at_note n i _ less
-    | inr last ↦ ?
+    | inl less ↦ at_note n i (Entered (note n) ∷ rest) less
+    | inr last ↦ behind n 0 i (Entered (note n) ∷ rest) (omega arith) ∙ ap note (omega arith)
   ])
+
+  module _ (n : ℕ) (last : Event K) (same : last.node ≡ 0) where
+    abbrev ramp : List (Entry K)
+    ramp = notes n ++ Entered last ∷ []
+
+    at_last : event_at (events_of ramp) n ≡ last
+    at_last = behind n 0 n (Entered last ∷ []) (omega arith)
+
+    node_at : (j : ℕ) → j < suc n → (event_at (events_of ramp) j).node ≡ 0
+    node_at j below = elim (cases_lt j n) [
+      | inl less ↦ rw at_note refl
+      | inr more ↦ ap (λ k. (event_at (events_of ramp) k).node) (omega arith) ∙ ap (λ e. e.node) at_last ∙ same
+    ]
+
+    from_note : (i j : ℕ) → i < j → j < suc n → IsStep (events_of ramp) i j
+    from_note i j before below = OnOneNode before (rw count (omega arith)) (node_at i (omega arith) ∙ sym (node_at j below))
+
+    note_follows : (j : ℕ) → j < n → Follows (events_of ramp) j
+    note_follows j below = record {
+      later = λ i step. rw (at_note n i _ (omega (arith, step_less step)), at_note n j _ below) (record { time = omega arith; counter = λ same. step_less step });
+      own = rw at_note (omega arith);
+      time = inl (rw at_note refl);
+      counter = elim (cases_lt 0 j) [
+        | inl more ↦ inr (j - 1, from_note (j - 1) j (omega arith) (omega arith), rw (at_note n (j - 1) _ (omega arith), at_note n j _ below) refl, rw (at_note n (j - 1) _ (omega arith), at_note n j _ below) (omega arith))
+        | inr none ↦ inl (rw at_note (omega arith))
+      ];
+    }
+
+    follows : Follows (events_of ramp) n → (j : ℕ) → j < length (events_of ramp) → Follows (events_of ramp) j
+    follows of_last j inside = elim (cases_lt j n) [
+      | inl less ↦ note_follows j less
+      | inr more ↦ subst (Follows (events_of ramp)) (omega (arith, more, inside, count n (Entered last ∷ []))) of_last
+    ]
+
+  without : (test : Entry K → Bool) → ((e : Event K) → test (Entered e) ≡ false) → (n : ℕ) (rest : List (Entry K)) → list_any test (notes n ++ rest) ≡ list_any test rest
+  without test not zero rest = refl
+  without test not (suc n) rest = rw append_assoc (without test not n (Entered (note n) ∷ rest) ∙ rw not refl)
+
+  module _ (order : K → K → Ordering) where
+    follows_breaks : (n : ℕ) (last : Event K) → last.node ≡ 0 → Follows (events_of (notes n ++ Entered last ∷ [])) n → (clause : Clause) → let history : List (Entry K) = notes n ++ Entered last ∷ [] in
+        (Time ≢ clause) → (Counter ≢ clause) → (Holds order small_setup history clause → ⊥) → (Lead ≢ clause → Holds order small_setup history Lead) → (Order ≢ clause → Holds order small_setup history Order) → BreaksOnly order history clause
+    follows_breaks n last same of_last clause not_time not_counter not lead later =
+        let history : List (Entry K) = notes n ++ Entered last ∷ [] in
+        record {
+          broken = not;
+          others = each_other _ clause (λ is. chains.largest (events_of history) (follows n last same of_last)) lead (λ is. chains.longest (events_of history) (follows n last same of_last)) later
+              (λ is. no_reads order history (without is_read (λ e. refl) n (Entered last ∷ []))) (λ is. no_cuts order history (without is_cut (λ e. refl) n (Entered last ∷ [])));
+        }
+
+    lead_bites : BreaksOnly order (notes 1 ++ entered 0 100 1000 1 Note ∷ []) Lead
+    lead_bites = follows_breaks 1 _ refl (record {
+      later = λ i step. rw (first i (step_less step)) (record { time = lit≤ tt; counter = λ same. lit< tt });
+      own = lit≤ tt;
+      time = inr (0, from_note 1 _ refl 0 1 (lit< tt) (lit< tt), refl);
+      counter = inr (0, from_note 1 _ refl 0 1 (lit< tt) (lit< tt), refl, refl);
+    }) Lead ? ? (λ h. absurd (omega (arith, h 1 (lit< tt)))) (λ is. absurd (is refl)) (λ is i j before. ?)
+
+    order_bites : (m : ℕ) → m ≡ 65536 → BreaksOnly order (notes (suc m) ++ entered 0 1001 1001 0 Note ∷ []) Order
+    order_bites m is = ?
 
   each : (order : K → K → Ordering) → EachClauseBites order
   each order key Time = breaks order _ (broken key Time) refl Time (λ h. omega (arith, largest_is order _ 1001 (h 0 (lit< tt))))
@@ -131,5 +192,5 @@ module _ {K : Type 0} where
       (each_other _ Reads (λ is. refl) (λ is. lit≤ tt) (λ is. refl) (λ is. tt) (λ is. absurd (is refl)) (λ is. refl))
   each order key Cuts = breaks order _ (broken key Cuts) refl Cuts (λ h. elim ((h 65536000 [] (inr (inl refl))).complete (first_put key) (inl refl) (lit≤ tt)).1 [ ])
       (each_other _ Cuts (λ is. refl) (λ is. lit≤ tt) (λ is. refl) (λ is. tt) (λ is. refl) (λ is. absurd (is refl)))
-  each order key Lead = ?
-  each order key Order = ?
+  each order key Lead = lead_bites order
+  each order key Order = order_bites order 65536 refl

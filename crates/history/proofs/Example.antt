@@ -1,5 +1,5 @@
 -- The small history is one.
-use Rattle.std.proofs.Common.{◌≡◌, ℕ, suc, zero, ◌+◌, ◌<◌, ◌≤◌, ◌⊎◌, ◌++◌, inl, inr, Bool, ◌&&◌, true, false, List, [], ◌∷◌, length, take, drop, nat_le, nat_lt, Some, None, refl, sym, ◌∙◌, arith}
+use Rattle.std.proofs.Common.{◌≡◌, ℕ, suc, zero, ◌<◌, ◌≤◌, ◌⊎◌, ◌++◌, inl, inr, Bool, ◌&&◌, true, false, List, [], ◌∷◌, take, drop, nat_le, nat_lt, refl, sym, ◌∙◌, arith}
 use Rattle.std.specs.declared.cmp.Ordering.{Ordering}
 use Rattle.std.specs.List.{list_any}
 use Rattle.std.specs.List.Sorted.{IsStrictlySortedBy}
@@ -11,10 +11,10 @@ use Rattle.stamps.specs.Stamp.{code_of}
 use Rattle.store.specs.Newest.{IsIn, IsNewest}
 use Rattle.store.specs.Page.{IsPage}
 use Rattle.store.specs.declared.version.Version.{Version}
-use Rattle.history.specs.Entering.{IsStamped, MayEnter, last_stamp}
-use Rattle.history.specs.Events.{Event, puts}
+use Rattle.history.specs.Entering.{IsStamped, last_stamp}
+use Rattle.history.specs.Events.{Event}
 use Rattle.history.specs.Examples.{IsRun, first_put, second_put, small_history, small_setup}
-use Rattle.history.specs.History.{Closed, Entered, Entry, IsHistory, IsSettled, MayBeWritten, Cut, Read, entry_at, events_of}
+use Rattle.history.specs.History.{Closed, Entered, Entry, IsHistory, IsSettled, MayBeWritten, Cut, Read, events_of}
 
 -- where none passes a test, what is in does not
 pub none_passes : {X : Type 0} (test : X → Bool) (x : X) (xs : List X) → list_any test xs ≡ false → IsIn x xs → test x ≡ false

@@ -1,7 +1,8 @@
 -- For each clause of the law, entries that break it alone.
-use Rattle.std.proofs.Common.{◌≡◌, ◌≢◌, ℕ, suc, zero, ◌+◌, ◌-◌, ◌<◌, ◌≤◌, ◌++◌, inl, inr, false, List, [], ◌∷◌, length, nat_eq, None, refl, sym, ap, ◌∙◌, subst, arith}
+use Rattle.std.proofs.Common.{◌≡◌, ◌≢◌, ℕ, suc, zero, ◌+◌, ◌-◌, ◌<◌, ◌≤◌, ◌⊎◌, ◌++◌, inl, inr, false, List, [], ◌∷◌, length, nat_eq, None, refl, sym, ap, ◌∙◌, subst, arith}
 use Rattle.std.specs.declared.cmp.Ordering.{Ordering}
 use Rattle.std.proofs.Math.Dec.{lit<, lit≤}
+use borrow.Author.Count.{below_more}
 use Rattle.std.proofs.lemmas.Bool.{cases_lt}
 use Rattle.std.proofs.lemmas.List.{append_assoc}
 use Rattle.history.specs.Before.{HappenedBefore, InOneStep, IsChainTo, IsLargestReading, IsLongestChain, IsStep, OnOneNode}
@@ -13,15 +14,9 @@ use Rattle.history.proofs.Chains.{Follows, largest, longest}
 use Rattle.history.proofs.Example.{has_kind, none_of_kind}
 use Rattle.history.proofs.Places.{before_less, before_to, step_less}
 
--- what is to be shown of the clauses other than this one
-each_other : (P : Clause → Type 0) (clause : Clause) → (Time ≢ clause → P Time) → (Lead ≢ clause → P Lead) → (Counter ≢ clause → P Counter)
-    → (Order ≢ clause → P Order) → (Reads ≢ clause → P Reads) → (Cuts ≢ clause → P Cuts) → (other : Clause) → other ≢ clause → P other
-each_other P clause time lead counter order reads cuts Time = time
-each_other P clause time lead counter order reads cuts Lead = lead
-each_other P clause time lead counter order reads cuts Counter = counter
-each_other P clause time lead counter order reads cuts Order = order
-each_other P clause time lead counter order reads cuts Reads = reads
-each_other P clause time lead counter order reads cuts Cuts = cuts
+-- clause by clause
+each : (P : Clause → Type 0) → P Time → P Lead → P Counter → P Order → P Reads → P Cuts → (clause : Clause) → P clause
+each P time lead counter order reads cuts clause = elim clause as P [ Time ↦ time | Lead ↦ lead | Counter ↦ counter | Order ↦ order | Reads ↦ reads | Cuts ↦ cuts ]
 
 first : (j : ℕ) → j < 1 → j ≡ 0
 first j below = omega arith
@@ -79,8 +74,8 @@ module _ {K : Type 0} (e : Event K) where
     holds Reads asked = no_reads order history asked
     holds Cuts asked = no_cuts order history asked
 
-    breaks : (clause : Clause) → (Holds order small_setup history clause → ⊥) → ((other : Clause) → other ≢ clause → Asks other) → BreaksOnly order history clause
-    breaks clause not others = record { broken = not; others = λ other differs. holds other (others other differs) }
+    breaks : (clause : Clause) → (Holds order small_setup history clause → ⊥) → ((other : Clause) → (other ≡ clause) ⊎ Asks other) → BreaksOnly order history clause
+    breaks clause not asked = record { broken = not; others = λ other differs. elim (asked other) [ inl same ↦ absurd (differs same) | inr asks ↦ holds other asks ] }
 
 -- notes, and what stands behind them
 module _ {K : Type 0} where
@@ -97,10 +92,9 @@ module _ {K : Type 0} where
 
   at_note : (n i : ℕ) (rest : List (Entry K)) → i < n → event_at (events_of (notes n ++ rest)) i ≡ note i
   at_note zero i rest below = absurd (omega arith)
-  at_note (suc n) i rest below = rw append_assoc (elim (cases_lt i n) [
-    | inl less ↦ at_note n i (Entered (note n) ∷ rest) less
-    | inr last ↦ behind n 0 i (Entered (note n) ∷ rest) (omega arith) ∙ ap note (omega arith)
-  ])
+  at_note (suc n) i rest below =
+      let more : List (Entry K) = Entered (note n) ∷ rest in
+      rw append_assoc (below_more (λ j. event_at (events_of (notes n ++ more)) j ≡ note j) n (λ j less. at_note n j more less) (behind n 0 n more (omega arith)) i (omega arith))
 
   without : (kind n : ℕ) (rest : List (Entry K)) → nat_eq 0 kind ≡ false → has_kind kind rest ≡ false → has_kind kind (notes n ++ rest) ≡ false
   without kind zero rest event none = none
@@ -121,10 +115,8 @@ module _ {K : Type 0} (order : K → K → Ordering) (n reading time counter : �
   at_last = behind n 0 n (Entered last ∷ []) (omega arith)
 
   each_event : (P : Event K → Type 0) → ((i : ℕ) → P (note i)) → P last → (j : ℕ) → j < suc n → P (event_at marks j)
-  each_event P of_notes of_last j below = elim (cases_lt j n) [
-    | inl less ↦ rw (at_note n j _ less) (of_notes j)
-    | inr more ↦ let end : j ≡ n = omega arith in rw (end, at_last) of_last
-  ]
+  each_event P of_notes of_last j below =
+      below_more (λ j. P (event_at marks j)) n (λ j less. rw (at_note n j _ less) (of_notes j)) (rw at_last of_last) j (omega arith)
 
   step : (i j : ℕ) → i < j → j < suc n → IsStep marks i j
   step i j before below =
@@ -147,19 +139,17 @@ module _ {K : Type 0} (order : K → K → Ordering) (n reading time counter : �
 
   module _ (of_last : Follows marks n) where
     follows : (j : ℕ) → j < length marks → Follows marks j
-    follows j inside = elim (cases_lt j n) [
-      | inl less ↦ note_follows j less
-      | inr more ↦ subst (Follows marks) (omega (arith, more, inside, count n (Entered last ∷ []))) of_last
-    ]
+    follows j inside = below_more (Follows marks) n note_follows of_last j (rw count at inside)
 
     follows_breaks : (clause : Clause) → (Holds order small_setup ramp clause → ⊥) → (Lead ≢ clause → Holds order small_setup ramp Lead) → (Order ≢ clause → Holds order small_setup ramp Order)
         → BreaksOnly order ramp clause
     follows_breaks clause not lead later = record {
       broken = not;
-      others = each_other _ clause (λ is. largest marks follows) lead (λ is. longest marks follows) later
+      others = each _ (λ is. largest marks follows) lead (λ is. longest marks follows) later
           (λ is. no_reads order ramp (without 1 n (Entered last ∷ []) refl refl)) (λ is. no_cuts order ramp (without 2 n (Entered last ∷ []) refl refl));
     }
 
+-- one note and one at a slow clock
 module _ {K : Type 0} (order : K → K → Ordering) where
   lead_bites : BreaksOnly order (ramp order 1 100 1000 1) Lead
   lead_bites =
@@ -174,6 +164,7 @@ module _ {K : Type 0} (order : K → K → Ordering) where
       (λ is. absurd (is refl))
       (λ is i j before. let end : j ≡ 1 = omega (arith, before_less before, before_to before) in rw (end, first i (omega (arith, before_less before))) (lit< tt))
 
+  -- 65537 notes and one of the next millisecond: the code of the last note's stamp is its stamp's too
   order_bites : (m : ℕ) → m ≡ 65536 → BreaksOnly order (ramp order (suc m) 1001 1001 0) Order
   order_bites m is =
       let end = at_last order (suc m) 1001 1001 0 in
@@ -187,14 +178,15 @@ module _ {K : Type 0} (order : K → K → Ordering) where
       (λ is j inside. each_event order (suc m) 1001 1001 0 (λ e. e.stamp.time ≤ e.reading + 500 + 20) (λ i. lit≤ tt) (lit≤ tt) j (omega (arith, rw count at inside)))
       (λ is. absurd (is refl))
 
+  -- the other four are of one event
   pub each_clause_bites : EachClauseBites order
   each_clause_bites key Time = breaks _ order (broken key Time) refl Time (λ h. omega (arith, largest_is _ 1001 (h 0 (lit< tt))))
-      (each_other _ Time (λ is. absurd (is refl)) (λ is. lit≤ tt) (λ is. refl) (λ is. tt) (λ is. refl) (λ is. refl))
+      (each _ (inl refl) (inr (lit≤ tt)) (inr refl) (inr tt) (inr refl) (inr refl))
   each_clause_bites key Lead = lead_bites
   each_clause_bites key Counter = breaks _ order (broken key Counter) refl Counter (λ h. omega (arith, longest_is _ 1 (h 0 (lit< tt))))
-      (each_other _ Counter (λ is. refl) (λ is. lit≤ tt) (λ is. absurd (is refl)) (λ is. tt) (λ is. refl) (λ is. refl))
+      (each _ (inr refl) (inr (lit≤ tt)) (inl refl) (inr tt) (inr refl) (inr refl))
   each_clause_bites key Order = order_bites 65536 refl
   each_clause_bites key Reads = breaks _ order (broken key Reads) refl Reads (λ h. omega (arith, h key 65536000 None (inr (inl refl)) (first_put key) (inl refl) refl))
-      (each_other _ Reads (λ is. refl) (λ is. lit≤ tt) (λ is. refl) (λ is. tt) (λ is. absurd (is refl)) (λ is. refl))
+      (each _ (inr refl) (inr (lit≤ tt)) (inr refl) (inr tt) (inl refl) (inr refl))
   each_clause_bites key Cuts = breaks _ order (broken key Cuts) refl Cuts (λ h. elim ((h 65536000 [] (inr (inl refl))).complete (first_put key) (inl refl) (lit≤ tt)).1 [ ])
-      (each_other _ Cuts (λ is. refl) (λ is. lit≤ tt) (λ is. refl) (λ is. tt) (λ is. refl) (λ is. absurd (is refl)))
+      (each _ (inr refl) (inr (lit≤ tt)) (inr refl) (inr tt) (inr refl) (inl refl))

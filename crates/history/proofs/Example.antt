@@ -37,12 +37,12 @@ pub none_of_kind : {K : Type 0} (n : ℕ) (history : List (Entry K)) → has_kin
 none_of_kind n history none entry is_in is = grind (arith, nat_tests, none_passes (λ entry. nat_eq (kind entry) n) entry history none is_in)
 
 module _ {K : Type 0} (order : K → K → Ordering) (key : K) where
-  -- an event of small numbers, behind readings up to 1000
-  abbrev is_small : List (Event K) → Event K → Bool
-  is_small earlier e = nat_lt e.node 2 && (nat_le 980 e.reading && nat_le e.stamp.counter max_counter)
+  -- an event of small numbers may be entered behind readings up to 1000
+  abbrev is_small : Event K → Bool
+  is_small e = nat_lt e.node 2 && (nat_le 980 e.reading && nat_le e.stamp.counter max_counter)
 
   enters : (earlier : List (Entry K)) (e : Event K) → has_kind 3 earlier ≡ false → list_any (λ d. nat_lt 1000 d.reading) (events_of earlier) ≡ false
-      → is_small (events_of earlier) e ≡ true → IsStamped 500 (events_of earlier) e e.what → MayBeWritten order small_setup earlier (Entered e)
+      → is_small e ≡ true → IsStamped 500 (events_of earlier) e e.what → MayBeWritten order small_setup earlier (Entered e)
   enters earlier e unclosed low small stamped = (
     λ closed. none_of_kind 3 earlier unclosed Closed closed refl,
     record {

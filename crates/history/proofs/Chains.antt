@@ -4,8 +4,8 @@ use Rattle.std.proofs.Common.{◌≡◌, ℕ, zero, suc, ◌+◌, ◌<◌, ◌�
 use Rattle.std.proofs.lemmas.List.{length_push}
 use Rattle.stamps.specs.Stamp.{Timestamp}
 use Rattle.store.specs.Newest.{IsIn}
-use Rattle.history.specs.Before.{HappenedBefore, InMoreSteps, InOneStep, IsChain, IsChainTo, IsLargestReading, IsLongestChain, IsStep, IsUpTo}
 use Rattle.history.specs.Events.{Event, event_at}
+use Rattle.history.specs.Before.{HappenedBefore, InMoreSteps, InOneStep, IsChain, IsChainTo, IsLargestReading, IsLongestChain, IsStep, IsUpTo}
 use Rattle.history.proofs.Lists.{from_append}
 use Rattle.history.proofs.Places.{before_less, before_to, step_less, step_to}
 

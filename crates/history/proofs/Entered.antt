@@ -8,9 +8,9 @@ use Rattle.std.proofs.lemmas.Bool.Decides.{nat_tests}
 use Rattle.std.proofs.lemmas.List.{length-take-le}
 use Rattle.stamps.specs.Rules.{own_stamp, receipt_stamp}
 use Rattle.stamps.specs.Stamp.{Timestamp, code_of, zero_stamp}
+use Rattle.history.specs.Events.{Event, Note, Put, Receipt, Send, What, event_at}
 use Rattle.history.specs.Before.{ByMessage, HappenedBefore, IsLastSend, IsStep, OnOneNode}
 use Rattle.history.specs.History.{AreEntered, IsReceiptStamp, IsStamped, MayEnter, Setup, last_stamp}
-use Rattle.history.specs.Events.{Event, Note, Put, Receipt, Send, What, event_at}
 use Rattle.history.proofs.Places.{at_in, at_take, before_less, before_to, inside_take, last_send_once, step_less}
 use Rattle.history.proofs.Chains.{Follows, IsLater, later, later_through}
 

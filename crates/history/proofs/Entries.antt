@@ -7,8 +7,8 @@ use Rattle.std.proofs.lemmas.List.{append-nil, get_or_append_left, get_or_push, 
 use Rattle.std.proofs.lemmas.List.Elements.{filter_map-append}
 use Rattle.stamps.specs.Stamp.{zero_stamp}
 use Rattle.store.specs.Newest.{IsIn}
-use Rattle.history.specs.History.{AreEntered, Closed, Cut, Entered, Entry, IsHistory, MayBeWritten, MayEnter, Read, Setup, entry_at, event_of, events_of}
 use Rattle.history.specs.Events.{Event, Note, event_at}
+use Rattle.history.specs.History.{AreEntered, Closed, Cut, Entered, Entry, IsHistory, MayBeWritten, MayEnter, Read, Setup, entry_at, event_of, events_of}
 
 module _ {K : Type 0} where
   pub event_at-earlier : (earlier later : List (Event K)) (place : ℕ) → place < length earlier → event_at (earlier ++ later) place ≡ event_at earlier place

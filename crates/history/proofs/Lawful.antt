@@ -6,8 +6,8 @@ use Rattle.std.proofs.lemmas.List.{take-append-drop}
 use Rattle.store.specs.Newest.{IsIn, IsReadAnswer}
 use Rattle.store.specs.Page.{IsPage}
 use Rattle.store.specs.declared.version.Version.{Version}
-use Rattle.history.specs.History.{Cut, Entry, IsHistory, IsSettled, MayBeWritten, Read, Setup, events_of}
 use Rattle.history.specs.Events.{puts}
+use Rattle.history.specs.History.{Cut, Entry, IsHistory, IsSettled, MayBeWritten, Read, Setup, events_of}
 use Rattle.history.specs.Law.{Clause, Counter, Cuts, IsLawful, Law, Lead, LeavesAnswers, Order, Reads, Time}
 use Rattle.history.proofs.Chains.{largest, longest}
 use Rattle.history.proofs.Entered.{ahead, follows, higher}

@@ -11,3 +11,5 @@ pub mod Entries
 pub mod Settling
 pub mod Lawful
 pub mod Unique
+pub mod Example
+pub mod Broken

@@ -5,8 +5,8 @@ use Rattle.std.proofs.lemmas.List.{get_or-take, length-take-le}
 use Rattle.std.specs.Prelude.{take}
 use Rattle.stamps.specs.Stamp.{zero_stamp}
 use Rattle.store.specs.Newest.{IsIn}
-use Rattle.history.specs.Before.{HappenedBefore, InMoreSteps, InOneStep, IsLastSend, IsStep, ByMessage, OnOneNode}
 use Rattle.history.specs.Events.{Event, Note, event_at}
+use Rattle.history.specs.Before.{HappenedBefore, InMoreSteps, InOneStep, IsLastSend, IsStep, ByMessage, OnOneNode}
 
 module _ {K : Type 0} where
   pub at_in : (events : List (Event K)) (place : ℕ) → place < length events → IsIn (event_at events place) events

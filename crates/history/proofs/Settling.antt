@@ -8,9 +8,9 @@ use Rattle.std.proofs.Math.Seq.{take-append-add}
 use Rattle.stamps.specs.Stamp.{code_of}
 use Rattle.store.specs.Newest.{IsIn}
 use Rattle.store.specs.declared.version.Version.{Version}
+use Rattle.history.specs.Events.{Event, Note, Put, Receipt, Send, What, event_at, puts, version_of}
 use Rattle.history.specs.Before.{InOneStep, OnOneNode}
 use Rattle.history.specs.History.{AreEntered, Closed, Cut, Entered, Entry, IsHistory, IsSettled, MayBeWritten, Read, Setup, entry_at, events_of, last_stamp}
-use Rattle.history.specs.Events.{Event, Note, Put, Receipt, Send, What, event_at, puts, version_of}
 use Rattle.history.specs.Law.{LeavesAnswers, SettledStays}
 use Rattle.history.proofs.Entered.{higher, last_is, not_early}
 use Rattle.history.proofs.Entries.{are_entered, event_at-earlier, events_of-append, placed}

@@ -9,8 +9,8 @@ use Rattle.stamps.specs.Stamp.{Timestamp, code_of, zero_stamp}
 use Rattle.store.specs.Newest.{IsIn, IsReadAnswer}
 use Rattle.store.specs.Page.{IsPage}
 use Rattle.store.specs.declared.version.Version.{Version}
-use Rattle.history.specs.Before.{IsLastSend}
 use Rattle.history.specs.Events.{Event, Note, Put, Receipt, Send, What, event_at, puts}
+use Rattle.history.specs.Before.{IsLastSend}
 
 -- What a recorder is set up with, and how far its bank lets each node's clock fall below an earlier reading.
 pub record Setup : Type 0 where

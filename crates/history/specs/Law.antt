@@ -5,8 +5,8 @@ use Rattle.stamps.specs.Stamp.{code_of}
 use Rattle.store.specs.Newest.{IsIn, IsReadAnswer}
 use Rattle.store.specs.Page.{IsPage}
 use Rattle.store.specs.declared.version.Version.{Version}
-use Rattle.history.specs.Before.{HappenedBefore, IsLargestReading, IsLongestChain}
 use Rattle.history.specs.Events.{Event, event_at, puts}
+use Rattle.history.specs.Before.{HappenedBefore, IsLargestReading, IsLongestChain}
 use Rattle.history.specs.History.{Closed, Cut, Entry, IsHistory, IsSettled, Read, Setup, events_of}
 
 -- its clauses

@@ -4,9 +4,9 @@ use Rattle.std.specs.declared.cmp.Ordering.{Ordering}
 use Rattle.store.specs.Newest.{IsOnlyAnswer, IsReadAnswer}
 use Rattle.store.specs.Page.{IsOnlyPage, IsPage}
 use Rattle.store.specs.declared.version.Version.{Version}
+use Rattle.history.specs.Events.{Event, Receipt, Send, event_at, puts}
 use Rattle.history.specs.Before.{IsLastSend}
 use Rattle.history.specs.History.{AreEntered, Setup}
-use Rattle.history.specs.Events.{Event, Receipt, Send, event_at, puts}
 
 -- at each stamp there is exactly one answer to a read of a key
 abbrev pub OneAnswer : Type 0 → Type 0

@@ -1,6 +1,6 @@
 // The law of whole runs.
 ghost use Rattle.std.specs.Prelude.{◌≡◌, true};
-ghost use Rattle.history.specs.Examples.{EachClauseBites, IsRun};
+ghost use Rattle.history.specs.Examples.{EachClauseBites, ExampleIsHistory};
 ghost use Rattle.history.specs.Law.{AllSettledWhenClosed, Law, SettledStays};
 ghost use Rattle.history.specs.Unique.{OneAnswer, OnePage, OneStamping};
 
@@ -44,7 +44,7 @@ pub fn stamps_are_unique<K: KeyKind>() -> bool
 // Whether there are histories, and whether each clause of the law is broken alone by entries that are none.
 pub fn clauses_bite<K: KeyKind>() -> bool
     ensures answer { result ≡ true }
-    ensures run { IsRun K.cmp }
+    ensures example { ExampleIsHistory K.cmp }
     ensures clauses { EachClauseBites K.cmp }
 {
     true

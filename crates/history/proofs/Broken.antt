@@ -1,0 +1,192 @@
+-- For each clause of the law, entries that break it alone.
+use Rattle.std.proofs.Common.{◌≡◌, ◌≢◌, ℕ, suc, zero, ◌+◌, ◌-◌, ◌<◌, ◌≤◌, ◌⊎◌, ◌++◌, inl, inr, false, List, [], ◌∷◌, length, nat_eq, None, refl, sym, ap, ◌∙◌, subst, arith}
+use Rattle.std.specs.declared.cmp.Ordering.{Ordering}
+use Rattle.std.proofs.Math.Dec.{lit<, lit≤}
+use borrow.Author.Count.{below_more}
+use Rattle.std.proofs.lemmas.Bool.{cases_lt}
+use Rattle.std.proofs.lemmas.List.{append_assoc}
+use Rattle.history.specs.Events.{Event, Note, event_at}
+use Rattle.history.specs.Before.{HappenedBefore, InOneStep, IsChainTo, IsLargestReading, IsLongestChain, IsStep, OnOneNode}
+use Rattle.history.specs.History.{Cut, Entered, Entry, Read, events_of}
+use Rattle.history.specs.Law.{Clause, Counter, Cuts, Holds, Lead, Order, Reads, Time}
+use Rattle.history.specs.Examples.{BreaksOnly, EachClauseBites, broken, did, first_put, notes, small_setup}
+use Rattle.history.proofs.Chains.{Follows, largest, longest}
+use Rattle.history.proofs.Example.{has_kind, none_of_kind}
+use Rattle.history.proofs.Places.{before_less, before_to, step_less}
+
+-- clause by clause
+each : (P : Clause → Type 0) → P Time → P Lead → P Counter → P Order → P Reads → P Cuts → (clause : Clause) → P clause
+each P time lead counter order reads cuts clause = elim clause as P [ Time ↦ time | Lead ↦ lead | Counter ↦ counter | Order ↦ order | Reads ↦ reads | Cuts ↦ cuts ]
+
+first : (j : ℕ) → j < 1 → j ≡ 0
+first j below = omega arith
+
+-- where nothing is read or cut, all answers are right
+module _ {K : Type 0} (order : K → K → Ordering) (history : List (Entry K)) where
+  no_reads : has_kind 1 history ≡ false → Holds order small_setup history Reads
+  no_reads none key stamp answer is_in = absurd (none_of_kind 1 history none (Read key stamp answer) is_in refl)
+
+  no_cuts : has_kind 2 history ≡ false → Holds order small_setup history Cuts
+  no_cuts none stamp rows is_in = absurd (none_of_kind 2 history none (Cut stamp rows) is_in refl)
+
+-- one event alone: nothing happened before it
+module _ {K : Type 0} (e : Event K) where
+  never : {A : Type 0} (i j : ℕ) → HappenedBefore (e ∷ []) i j → A
+  never i j before = absurd (omega (arith, before_less before, before_to before))
+
+  largest_alone : IsLargestReading (e ∷ []) 0 e.reading
+  largest_alone = record {
+    one = (0, inl refl, refl);
+    none_larger = λ i up_to. elim up_to [ inl here ↦ rw here (omega arith) | inr before ↦ never i 0 before ];
+  }
+
+  largest_is : (t : ℕ) → IsLargestReading (e ∷ []) 0 t → e.reading ≡ t
+  largest_is t is = elim is.one.1 [ inl here ↦ ap (λ i. (event_at (e ∷ []) i).reading) (sym here) ∙ is.one.2 | inr before ↦ never is.one.0 0 before ]
+
+  none_before : (chain : List ℕ) → IsChainTo (e ∷ []) 0 chain → length chain ≡ 0
+  none_before [] to = refl
+  none_before (i ∷ chain) to = never i 0 (to.before i (inl refl))
+
+  longest_alone : IsLongestChain (e ∷ []) 0 0
+  longest_alone = record {
+    one = ([], record { is_chain = tt; before = λ i is_in. elim is_in [ ]; of_its_time = λ i is_in. elim is_in [ ] }, refl);
+    none_longer = λ chain to. omega (arith, none_before chain to);
+  }
+
+  longest_is : (n : ℕ) → IsLongestChain (e ∷ []) 0 n → n ≡ 0
+  longest_is n is = sym is.one.2 ∙ none_before is.one.0 is.one.1
+
+  module _ (order : K → K → Ordering) (history : List (Entry K)) (is : events_of history ≡ e ∷ []) where
+    -- what each clause then asks for
+    abbrev Asks : Clause → Type 0
+    Asks Time = e.reading ≡ e.stamp.time
+    Asks Lead = e.stamp.time ≤ e.reading + 500 + 20
+    Asks Counter = e.stamp.counter ≡ 0
+    Asks Order = Unit {0}
+    Asks Reads = has_kind 1 history ≡ false
+    Asks Cuts = has_kind 2 history ≡ false
+
+    holds : (clause : Clause) → Asks clause → Holds order small_setup history clause
+    holds Time asked = rw is (λ j below. rw (first j below) (subst (IsLargestReading (e ∷ []) 0) asked largest_alone))
+    holds Lead asked = rw is (λ j below. rw (first j below) asked)
+    holds Counter asked = rw is (λ j below. rw (first j below) (subst (IsLongestChain (e ∷ []) 0) (sym asked) longest_alone))
+    holds Order asked = rw is (λ i j before. never i j before)
+    holds Reads asked = no_reads order history asked
+    holds Cuts asked = no_cuts order history asked
+
+    breaks : (clause : Clause) → (Holds order small_setup history clause → ⊥) → ((other : Clause) → (other ≡ clause) ⊎ Asks other) → BreaksOnly order history clause
+    breaks clause not asked = record { breaks = not; others = λ other differs. elim (asked other) [ inl same ↦ absurd (differs same) | inr asks ↦ holds other asks ] }
+
+-- notes, and what stands behind them
+module _ {K : Type 0} where
+  abbrev note : ℕ → Event K
+  note i = record { node = 0; reading = 1000; stamp = record { time = 1000; counter = i }; what = Note }
+
+  count : (n : ℕ) (rest : List (Entry K)) → length (events_of (notes n ++ rest)) ≡ n + length (events_of rest)
+  count zero rest = omega arith
+  count (suc n) rest = rw append_assoc (omega (arith, count n (Entered (note n) ∷ rest)))
+
+  behind : (n i j : ℕ) (rest : List (Entry K)) → j ≡ n + i → event_at (events_of (notes n ++ rest)) j ≡ event_at (events_of rest) i
+  behind zero i j rest is = ap (event_at (events_of rest)) (omega (arith, is))
+  behind (suc n) i j rest is = rw append_assoc (behind n (suc i) j (Entered (note n) ∷ rest) (omega (arith, is)))
+
+  at_note : (n i : ℕ) (rest : List (Entry K)) → i < n → event_at (events_of (notes n ++ rest)) i ≡ note i
+  at_note zero i rest below = absurd (omega arith)
+  at_note (suc n) i rest below =
+      let more : List (Entry K) = Entered (note n) ∷ rest in
+      rw append_assoc (below_more (λ j. event_at (events_of (notes n ++ more)) j ≡ note j) n (λ j less. at_note n j more less) (behind n 0 n more (omega arith)) i (omega arith))
+
+  without : (kind n : ℕ) (rest : List (Entry K)) → nat_eq 0 kind ≡ false → has_kind kind rest ≡ false → has_kind kind (notes n ++ rest) ≡ false
+  without kind zero rest event none = none
+  without kind (suc n) rest event none = rw append_assoc (without kind n (Entered (note n) ∷ rest) event (rw event none))
+
+-- n notes and one more
+module _ {K : Type 0} (order : K → K → Ordering) (n reading time counter : ℕ) where
+  abbrev ramp : List (Entry K)
+  ramp = notes n ++ did 0 reading time counter Note ∷ []
+
+  abbrev marks : List (Event K)
+  marks = events_of ramp
+
+  abbrev last : Event K
+  last = record { node = 0; reading = reading; stamp = record { time = time; counter = counter }; what = Note }
+
+  at_last : event_at marks n ≡ last
+  at_last = behind n 0 n (Entered last ∷ []) (omega arith)
+
+  each_event : (P : Event K → Type 0) → ((i : ℕ) → P (note i)) → P last → (j : ℕ) → j < suc n → P (event_at marks j)
+  each_event P of_notes of_last j below =
+      below_more (λ j. P (event_at marks j)) n (λ j less. rw (at_note n j _ less) (of_notes j)) (rw at_last of_last) j (omega arith)
+
+  step : (i j : ℕ) → i < j → j < suc n → IsStep marks i j
+  step i j before below =
+      let of_node = each_event (λ e. e.node ≡ 0) (λ i. refl) refl in
+      OnOneNode before (rw count (omega arith)) (of_node i (omega arith) ∙ sym (of_node j below))
+
+  note_follows : (j : ℕ) → j < n → Follows marks j
+  note_follows j below =
+      let here = at_note n j (Entered last ∷ []) below in
+      let there = at_note n (j - 1) (Entered last ∷ []) (omega arith) in
+      record {
+        later = λ i from. rw (at_note n i _ (omega (arith, step_less from)), here) (record { time = omega arith; counter = λ same. step_less from });
+        own = rw here (omega arith);
+        time = inl (rw here refl);
+        counter = elim (cases_lt 0 j) [
+          | inl more ↦ inr (j - 1, step (j - 1) j (omega arith) (omega arith), rw (there, here) refl, rw (there, here) (omega arith))
+          | inr none ↦ inl (rw here (omega arith))
+        ];
+      }
+
+  module _ (of_last : Follows marks n) where
+    follows : (j : ℕ) → j < length marks → Follows marks j
+    follows j inside = below_more (Follows marks) n note_follows of_last j (rw count at inside)
+
+    follows_breaks : (clause : Clause) → (Holds order small_setup ramp clause → ⊥) → (Lead ≢ clause → Holds order small_setup ramp Lead) → (Order ≢ clause → Holds order small_setup ramp Order)
+        → BreaksOnly order ramp clause
+    follows_breaks clause not lead later = record {
+      breaks = not;
+      others = each _ (λ is. largest marks follows) lead (λ is. longest marks follows) later
+          (λ is. no_reads order ramp (without 1 n (Entered last ∷ []) refl refl)) (λ is. no_cuts order ramp (without 2 n (Entered last ∷ []) refl refl));
+    }
+
+-- one note and one at a slow clock
+module _ {K : Type 0} (order : K → K → Ordering) where
+  lead_bites : BreaksOnly order (ramp order 1 100 1000 1) Lead
+  lead_bites =
+      let from = step order 1 100 1000 1 0 1 (lit< tt) (lit< tt) in
+      follows_breaks order 1 100 1000 1 (record {
+        later = λ i to. rw (first i (step_less to)) (record { time = lit≤ tt; counter = λ same. lit< tt });
+        own = lit≤ tt;
+        time = inr (0, from, refl);
+        counter = inr (0, from, refl, refl);
+      }) Lead
+      (λ h. omega (arith, h 1 (lit< tt)))
+      (λ is. absurd (is refl))
+      (λ is i j before. let end : j ≡ 1 = omega (arith, before_less before, before_to before) in rw (end, first i (omega (arith, before_less before))) (lit< tt))
+
+  -- 65537 notes and one of the next millisecond: the code of the last note's stamp is its stamp's too
+  order_bites : (m : ℕ) → m ≡ 65536 → BreaksOnly order (ramp order (suc m) 1001 1001 0) Order
+  order_bites m is =
+      let end = at_last order (suc m) 1001 1001 0 in
+      follows_breaks order (suc m) 1001 1001 0 (record {
+        later = λ i from. rw (at_note (suc m) i _ (step_less from), end) (record { time = lit≤ tt; counter = λ same. absurd (omega (arith, same)) });
+        own = rw end (lit≤ tt);
+        time = inl (rw end refl);
+        counter = inl (rw end refl);
+      }) Order
+      (λ h. omega (arith, is, rw (at_note (suc m) m _ (omega arith), end) at (h m (suc m) (InOneStep (step order (suc m) 1001 1001 0 m (suc m) (omega arith) (omega arith))))))
+      (λ is j inside. each_event order (suc m) 1001 1001 0 (λ e. e.stamp.time ≤ e.reading + 500 + 20) (λ i. lit≤ tt) (lit≤ tt) j (omega (arith, rw count at inside)))
+      (λ is. absurd (is refl))
+
+  -- the other four are of one event
+  pub each_clause_bites : EachClauseBites order
+  each_clause_bites key Time = breaks _ order (broken key Time) refl Time (λ h. omega (arith, largest_is _ 1001 (h 0 (lit< tt))))
+      (each _ (inl refl) (inr (lit≤ tt)) (inr refl) (inr tt) (inr refl) (inr refl))
+  each_clause_bites key Lead = lead_bites
+  each_clause_bites key Counter = breaks _ order (broken key Counter) refl Counter (λ h. omega (arith, longest_is _ 1 (h 0 (lit< tt))))
+      (each _ (inr refl) (inr (lit≤ tt)) (inl refl) (inr tt) (inr refl) (inr refl))
+  each_clause_bites key Order = order_bites 65536 refl
+  each_clause_bites key Reads = breaks _ order (broken key Reads) refl Reads (λ h. omega (arith, h key 65536000 None (inr (inl refl)) (first_put key) (inl refl) refl))
+      (each _ (inr refl) (inr (lit≤ tt)) (inr refl) (inr tt) (inl refl) (inr refl))
+  each_clause_bites key Cuts = breaks _ order (broken key Cuts) refl Cuts (λ h. elim ((h 65536000 [] (inr (inl refl))).complete (first_put key) (inl refl) (lit≤ tt)).1 [ ])
+      (each _ (inr refl) (inr (lit≤ tt)) (inr refl) (inr tt) (inr refl) (inl refl))

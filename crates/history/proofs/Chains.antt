@@ -7,7 +7,7 @@ use Rattle.store.specs.Newest.{IsIn}
 use Rattle.history.specs.Events.{Event, event_at}
 use Rattle.history.specs.Before.{HappenedBefore, InMoreSteps, InOneStep, IsChain, IsChainTo, IsLargestReading, IsLongestChain, IsStep, IsUpTo}
 use Rattle.history.proofs.Lists.{from_append}
-use Rattle.history.proofs.Places.{before_less, before_to, step_less, step_to}
+use Rattle.history.proofs.Places.{before_less, step_less, step_to}
 
 -- t has a larger time than s, or the same and a larger counter
 pub record IsLater (s t : Timestamp) : Type 0 where
@@ -33,7 +33,7 @@ pub record Follows {K : Type 0} (events : List (Event K)) (j : ℕ) : Type 0 whe
   pub counter :
       ((event_at events j).stamp.counter ≡ 0)
       ⊎ ((i : ℕ) × IsStep events i j × ((event_at events i).stamp.time ≡ (event_at events j).stamp.time)
-          × ((event_at events j).stamp.counter ≡ suc (event_at events i).stamp.counter))
+      × ((event_at events j).stamp.counter ≡ suc (event_at events i).stamp.counter))
 
 -- what is in a list with one more at its end
 in_end : {X : Type 0} (x y : X) (xs : List X) → IsIn x (xs ++ y ∷ []) → IsIn x xs ⊎ (x ≡ y)
@@ -68,13 +68,14 @@ module _ {K : Type 0} (events : List (Event K)) where
       | inl own ↦ (j, inl refl, own)
       | inr from ↦
           let less = step_less from.1 in
-          let found = has_reading n from.0 (omega (arith, less, bound)) (omega (arith, less, inside)) in
-          (found.0,
-           elim found.1 [
-             | inl same ↦ inr (InOneStep (subst (λ k. IsStep events k j) (sym same) from.1))
-             | inr before ↦ inr (InMoreSteps before from.1)
-           ],
-           found.2 ∙ from.2)
+          let found = has_reading n from.0 (omega (arith, less, bound)) (omega (arith, less, inside)) in (
+            found.0,
+            elim found.1 [
+              | inl same ↦ inr (InOneStep (subst (λ k. IsStep events k j) (sym same) from.1))
+              | inr before ↦ inr (InMoreSteps before from.1)
+            ],
+            found.2 ∙ from.2,
+          )
     ]
 
     pub largest : (j : ℕ) → j < length events → IsLargestReading events j (event_at events j).stamp.time
@@ -87,20 +88,21 @@ module _ {K : Type 0} (events : List (Event K)) where
       | inl none ↦ ([], record { is_chain = tt; before = λ i there. elim there [ ]; of_its_time = λ i there. elim there [ ] }, sym none)
       | inr from ↦
           let less = step_less from.1 in
-          let found = has_chain n from.0 (omega (arith, less, bound)) (omega (arith, less, inside)) in
-          (found.0 ++ from.0 ∷ [],
-           record {
-             is_chain = chain_end from.0 found.0 found.1.is_chain found.1.before;
-             before = λ i there. elim (in_end i from.0 found.0 there) [
-               | inl more ↦ InMoreSteps (found.1.before i more) from.1
-               | inr last ↦ InOneStep (subst (λ k. IsStep events k j) (sym last) from.1)
-             ];
-             of_its_time = λ i there. elim (in_end i from.0 found.0 there) [
-               | inl more ↦ found.1.of_its_time i more ∙ from.2
-               | inr last ↦ ap (λ k. (event_at events k).stamp.time) last ∙ from.2
-             ];
-           },
-           omega (arith, length_push found.0 from.0, found.2, from.3))
+          let found = has_chain n from.0 (omega (arith, less, bound)) (omega (arith, less, inside)) in (
+            found.0 ++ from.0 ∷ [],
+            record {
+              is_chain = chain_end from.0 found.0 found.1.is_chain found.1.before;
+              before = λ i there. elim (in_end i from.0 found.0 there) [
+                | inl more ↦ InMoreSteps (found.1.before i more) from.1
+                | inr last ↦ InOneStep (subst (λ k. IsStep events k j) (sym last) from.1)
+              ];
+              of_its_time = λ i there. elim (in_end i from.0 found.0 there) [
+                | inl more ↦ found.1.of_its_time i more ∙ from.2
+                | inr last ↦ ap (λ k. (event_at events k).stamp.time) last ∙ from.2
+              ];
+            },
+            omega (arith, length_push found.0 from.0, found.2, from.3),
+          )
     ]
 
     -- counters rise along a chain

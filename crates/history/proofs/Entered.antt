@@ -1,6 +1,6 @@
 -- Each entered event follows from single steps, and is ahead of its node's readings by the lead at most.
 use Rattle.std.proofs.Common.{◌≡◌, ℕ, zero, suc, ◌+◌, ◌<◌, ◌≤◌, ◌⊎◌, inl, inr, Bool, true, false, List, [], ◌∷◌, map, length, Some, None, Option, refl, sym, ap, ◌∙◌, subst, arith}
-use Rattle.std.specs.Prelude.{◌≢◌, ◌==◌, max, take, nat_eq}
+use Rattle.std.specs.Prelude.{◌≢◌, ◌==◌, take}
 use Rattle.std.specs.List.{filter, last_or}
 use Rattle.std.specs.Option.{unwrap_or}
 use Rattle.std.proofs.lemmas.Bool.{cases_order}
@@ -10,7 +10,7 @@ use Rattle.stamps.specs.Rules.{own_stamp, receipt_stamp}
 use Rattle.stamps.specs.Stamp.{Timestamp, code_of, zero_stamp}
 use Rattle.history.specs.Events.{Event, Note, Put, Receipt, Send, What, event_at}
 use Rattle.history.specs.Before.{ByMessage, HappenedBefore, IsLastSend, IsStep, OnOneNode}
-use Rattle.history.specs.History.{AreEntered, IsReceiptStamp, IsStamped, MayEnter, Setup, last_stamp}
+use Rattle.history.specs.History.{AreEntered, IsReceiptStamp, IsStamped, Setup, last_stamp}
 use Rattle.history.proofs.Places.{at_in, at_take, before_less, before_to, inside_take, last_send_once, step_less}
 use Rattle.history.proofs.Chains.{Follows, IsLater, later, later_through}
 
@@ -145,16 +145,17 @@ module _ {K : Type 0} {setup : Setup} {events : List (Event K)} (entered : AreEn
   -- the node's last stamp before event j is that of an event from which a step leads to j, unless it is 0.0
   last_step : (j : ℕ) → j < length events → 1 ≤ (last_stamp (take j events) (event_at events j).node).time
       → (i : ℕ) × IsStep events i j × ((event_at events i).stamp ≡ last_stamp (take j events) (event_at events j).node)
-          × ((event_at events i).node ≡ (event_at events j).node)
+      × ((event_at events i).node ≡ (event_at events j).node)
   last_step j inside positive = elim (last_is (event_at events j).node (take j events)) [
     | inl last ↦
         let length_is = length-take-le j events (omega (arith, inside)) in
         let less : last.0 < j = omega (arith, last.1.inside, length_is) in
-        let same = at_take events j last.0 less in
-        (last.0,
-         OnOneNode less inside (ap (λ e. e.node) (sym same) ∙ last.1.of_node),
-         ap (λ e. e.stamp) (sym same) ∙ last.2,
-         ap (λ e. e.node) (sym same) ∙ last.1.of_node)
+        let same = at_take events j last.0 less in (
+          last.0,
+          OnOneNode less inside (ap (λ e. e.node) (sym same) ∙ last.1.of_node),
+          ap (λ e. e.stamp) (sym same) ∙ last.2,
+          ap (λ e. e.node) (sym same) ∙ last.1.of_node,
+        )
     | inr none ↦ absurd (omega (arith, positive, ap (λ s. s.time) none.1))
   ]
 
@@ -175,7 +176,7 @@ module _ {K : Type 0} {setup : Setup} {events : List (Event K)} (entered : AreEn
         let before : last.0 < j = omega (arith, last.1.inside, length_is) in
         let is = at_take events j last.0 before in
         let step : IsLater (event_at events last.0).stamp (event_at events j).stamp =
-            subst (λ s. IsLater s (event_at events j).stamp) (sym (ap (λ e. e.stamp) (sym is) ∙ last.2)) (after_own j inside) in
+        subst (λ s. IsLater s (event_at events j).stamp) (sym (ap (λ e. e.stamp) (sym is) ∙ last.2)) (after_own j inside) in
         let node = ap (λ e. e.node) (sym is) ∙ last.1.of_node in
         elim (cases_order i last.0) [
           | inl at_last ↦ subst (λ k. IsLater (event_at events k).stamp (event_at events j).stamp) (sym at_last) step
@@ -193,8 +194,8 @@ module _ {K : Type 0} {setup : Setup} {events : List (Event K)} (entered : AreEn
   later_step i j (ByMessage number inside receipt last) =
       let ruled = is_ruled j inside in
       subst (IsLater (event_at events i).stamp) (sym ruled.by_rule)
-        (subst (λ s. IsLater s (receipt_stamp (last_stamp (take j events) (event_at events j).node) ruled.sent (event_at events j).reading)) (sym (ruled.of_message number i receipt last))
-          (after_sent (last_stamp (take j events) (event_at events j).node) ruled.sent (event_at events j).reading))
+      (subst (λ s. IsLater s (receipt_stamp (last_stamp (take j events) (event_at events j).node) ruled.sent (event_at events j).reading)) (sym (ruled.of_message number i receipt last))
+      (after_sent (last_stamp (take j events) (event_at events j).node) ruled.sent (event_at events j).reading))
 
   -- a stamp from which event j was stamped, and which is not 0.0, is that of an event from which a step leads to j
   HasStep : ℕ → Timestamp → Type 0
@@ -270,17 +271,17 @@ module _ {K : Type 0} {setup : Setup} {events : List (Event K)} (entered : AreEn
       let last : Timestamp = last_stamp (take j events) (event_at events j).node in
       let times = ap (λ s. s.time) ruled.by_rule in
       let by_last : last.time ≡ (event_at events j).stamp.time → IsNear j = λ is.
-          let step = last_step j inside (omega (arith, is, not_early j inside, (entered j inside).reading)) in
-          let less = step_less step.1 in
-          near_through step.0 j less step.3 (ap (λ s. s.time) step.2 ∙ is) (near n step.0 (omega (arith, less, bound)) (omega (arith, less, inside)))
+      let step = last_step j inside (omega (arith, is, not_early j inside, (entered j inside).reading)) in
+      let less = step_less step.1 in
+      near_through step.0 j less step.3 (ap (λ s. s.time) step.2 ∙ is) (near n step.0 (omega (arith, less, bound)) (omega (arith, less, inside)))
       in
       elim (time_from last ruled.sent (event_at events j).reading) [
         | inl is ↦ near_own j (omega (arith, is, times))
         | inr (inl is) ↦ by_last (is ∙ sym times)
         | inr (inr is) ↦ elim ruled.source [
-            | inl same ↦ by_last (ap (λ s. s.time) (sym same) ∙ is ∙ sym times)
-            | inr message ↦ near_own j (omega (arith, message.3, is, times))
-          ]
+          | inl same ↦ by_last (ap (λ s. s.time) (sym same) ∙ is ∙ sym times)
+          | inr message ↦ near_own j (omega (arith, message.3, is, times))
+        ]
       ]
 
   -- and readings fall back by the backstep at most
@@ -292,7 +293,7 @@ module _ {K : Type 0} {setup : Setup} {events : List (Event K)} (entered : AreEn
         | inr (inl less) ↦
             let earlier = at_take events j is.place less in
             let kept = (entered j inside).clock (event_at (take j events) is.place) (at_in (take j events) is.place (inside_take events j is.place less (omega (arith, inside))))
-                (ap (λ e. e.node) earlier ∙ is.of_node) in
+            (ap (λ e. e.node) earlier ∙ is.of_node) in
             omega (arith, is.near, kept, ap (λ e. e.reading) earlier)
         | inr (inr more) ↦ absurd (omega (arith, more, is.not_behind))
       ]

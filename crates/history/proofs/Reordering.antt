@@ -1,8 +1,7 @@
 -- Two orders of the same events have the same stamps.
-use Rattle.std.proofs.Common.{◌≡◌, ℕ, ◌<◌, ◌≤◌, ◌⊎◌, inl, inr, List, [], ◌∷◌, length, map, take, refl, sym, ap, ◌∙◌, subst, arith}
+use Rattle.std.proofs.Common.{◌≡◌, ℕ, ◌<◌, ◌≤◌, ◌⊎◌, inl, inr, List, [], ◌∷◌, length, map, take, sym, ap, ◌∙◌, subst, arith}
 use Rattle.std.proofs.lemmas.Bool.{cases_order}
 use Rattle.std.proofs.lemmas.List.{length-map, length-take-le}
-use Rattle.store.specs.Newest.{IsIn}
 use Rattle.history.specs.Before.{ByMessage, HappenedBefore, InMoreSteps, InOneStep, IsChain, IsChainTo, IsLargestReading, IsLastSend, IsLongestChain, IsStep, IsUpTo, OnOneNode}
 use Rattle.history.specs.History.{AreEntered, IsReceiptStamp, IsStamped, Setup}
 use Rattle.history.specs.Events.{Event, Receipt, Send, event_at}

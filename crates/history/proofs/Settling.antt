@@ -1,17 +1,17 @@
 -- What is written behind a settled stamp leaves its answers as they are.
-use Rattle.std.proofs.Common.{◌≡◌, ℕ, zero, suc, ◌+◌, ◌<◌, ◌≤◌, ◌⊎◌, inl, inr, List, [], ◌∷◌, ◌++◌, length, Some, None, Option, refl, sym, ap, ◌∙◌, subst, arith}
-use Rattle.std.specs.Prelude.{◌≢◌, take}
+use Rattle.std.proofs.Common.{◌≡◌, ℕ, ◌+◌, ◌<◌, ◌≤◌, inl, inr, List, [], ◌∷◌, ◌++◌, length, Some, refl, sym, ap, ◌∙◌, subst, arith}
+use Rattle.std.specs.Prelude.{take}
 use Rattle.std.specs.declared.cmp.Ordering.{Ordering}
 use Rattle.std.proofs.lemmas.Bool.{cases_lt, cases_order}
-use Rattle.std.proofs.lemmas.List.{append-nil, get_or-append-add, length-append, take-append-le}
+use Rattle.std.proofs.lemmas.List.{append-nil, get_or-append-add, length-append}
 use Rattle.std.proofs.Math.Seq.{take-append-add}
 use Rattle.stamps.specs.Stamp.{code_of}
 use Rattle.store.specs.Newest.{IsIn}
 use Rattle.store.specs.declared.version.Version.{Version}
-use Rattle.history.specs.Events.{Event, Note, Put, Receipt, Send, What, event_at, puts, version_of}
+use Rattle.history.specs.Events.{Event, event_at, puts, version_of}
 use Rattle.history.specs.Before.{InOneStep, OnOneNode}
 use Rattle.history.specs.History.{AreEntered, Closed, Cut, Entered, Entry, IsHistory, IsSettled, MayBeWritten, Read, Setup, entry_at, events_of, last_stamp}
-use Rattle.history.specs.Law.{LeavesAnswers, SettledStays}
+use Rattle.history.specs.Law.{LeavesAnswers}
 use Rattle.history.proofs.Entered.{higher, last_is, not_early}
 use Rattle.history.proofs.Entries.{are_entered, event_at-earlier, events_of-append, placed}
 use Rattle.history.proofs.Lists.{in_append}
@@ -46,10 +46,10 @@ module _ {K : Type 0} {setup : Setup} (earlier later : List (Event K)) (entered 
         elim (last_is node (earlier ++ later)) [
           | inr none ↦ absurd (none.0 first.0 inside of_node)
           | inl last ↦ elim (cases_order first.0 last.0) [
-              | inl same ↦ omega (arith, passed, code, ap (λ place. code_of (event_at (earlier ++ later) place).stamp) same, ap code_of last.2)
-              | inr (inl less) ↦ omega (arith, passed, code, node_higher first.0 last.0 less last.1.inside (of_node ∙ sym last.1.of_node), ap code_of last.2)
-              | inr (inr more) ↦ absurd (last.1.none_behind first.0 more inside of_node)
-            ]
+            | inl same ↦ omega (arith, passed, code, ap (λ place. code_of (event_at (earlier ++ later) place).stamp) same, ap code_of last.2)
+            | inr (inl less) ↦ omega (arith, passed, code, node_higher first.0 last.0 less last.1.inside (of_node ∙ sym last.1.of_node), ap code_of last.2)
+            | inr (inr more) ↦ absurd (last.1.none_behind first.0 more inside of_node)
+          ]
         ]
   ]
 
@@ -60,10 +60,10 @@ module _ {K : Type 0} {setup : Setup} (earlier later : List (Event K)) (entered 
         let put = put_at (earlier ++ later) v is_in in
         elim (cases_lt put.place (length earlier)) [
           | inl before ↦ put_in earlier v (record {
-              place = put.place;
-              inside = before;
-              is = subst (λ e. version_of e e.what ≡ Some v) (event_at-earlier earlier later put.place before) put.is;
-            })
+            place = put.place;
+            inside = before;
+            is = subst (λ e. version_of e e.what ≡ Some v) (event_at-earlier earlier later put.place before) put.is;
+          })
           | inr behind ↦
               let e = event_at (earlier ++ later) put.place in
               let above = above_last e.node stamp (passed e.node (entered put.place put.inside).node) put.place behind put.inside refl in
@@ -101,17 +101,17 @@ module _ {K : Type 0} (order : K → K → Ordering) (setup : Setup) (earlier la
   stays_settled (inl closed) = inl (in_append Closed earlier later (inl closed))
   stays_settled (inr passed) = inr (λ node is.
       subst (λ events. stamp ≤ code_of (last_stamp events node)) (sym (events_of-append earlier later))
-        (last_rises (events_of earlier) (events_of later) entered node stamp (passed node is)))
+      (last_rises (events_of earlier) (events_of later) entered node stamp (passed node is)))
 
   settled_puts : IsSettled setup earlier stamp → AreSameUpTo stamp (puts (events_of earlier)) (puts (events_of (earlier ++ later)))
   settled_puts (inl closed) =
       let none = no_events later (none_after_close closed) in
       let same : events_of earlier ≡ events_of (earlier ++ later) =
-          sym (events_of-append earlier later ∙ ap (λ events. events_of earlier ++ events) none ∙ append-nil (events_of earlier)) in
+      sym (events_of-append earlier later ∙ ap (λ events. events_of earlier ++ events) none ∙ append-nil (events_of earlier)) in
       subst (λ events. AreSameUpTo stamp (puts (events_of earlier)) (puts events)) same (record { there = λ v below is_in. is_in; back = λ v below is_in. is_in })
   settled_puts (inr passed) =
       subst (λ events. AreSameUpTo stamp (puts (events_of earlier)) (puts events)) (sym (events_of-append earlier later))
-        (same_puts (events_of earlier) (events_of later) entered stamp passed)
+      (same_puts (events_of earlier) (events_of later) entered stamp passed)
 
   pub leaves_answers : IsSettled setup earlier stamp → LeavesAnswers order setup earlier later stamp
   leaves_answers settled = record {

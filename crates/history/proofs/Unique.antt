@@ -1,12 +1,12 @@
 -- What a history determines.
-use Rattle.std.proofs.Common.{ℕ, List, Option}
+use Rattle.std.proofs.Common.{List}
 use Rattle.std.specs.Cmp.{IsTotalOrder}
 use Rattle.std.specs.declared.cmp.Ordering.{Ordering}
 use Rattle.keys.specs.Order.{IsKeyOrder}
 use Rattle.history.specs.Events.{Event}
 use Rattle.history.specs.Before.{InOneStep, OnOneNode}
 use Rattle.history.specs.History.{AreEntered, Setup}
-use Rattle.history.specs.Unique.{AreSame, OneAnswer, OnePage, OneStamping}
+use Rattle.history.specs.Unique.{OneAnswer, OnePage, OneStamping}
 use Rattle.history.proofs.Chains.{largest, longest}
 use Rattle.history.proofs.Entered.{follows, higher}
 use Rattle.history.proofs.OneAnswer.{NodesRise, one_answer, one_page}

@@ -2,7 +2,7 @@
 use Rattle.std.specs.Prelude.{◌≢◌, ℕ, zero, suc, ◌++◌, negsuc, List, [], ◌∷◌, None, Some}
 use Rattle.std.specs.declared.cmp.Ordering.{Ordering}
 use Rattle.store.specs.declared.version.Version.{Version}
-use Rattle.history.specs.Events.{Event, Note, Put, Receipt, Send, What}
+use Rattle.history.specs.Events.{Note, Put, Receipt, Send, What}
 use Rattle.history.specs.History.{Closed, Cut, Entered, Entry, IsHistory, Read, Setup}
 use Rattle.history.specs.Law.{Clause, Counter, Cuts, Holds, Lead, Order, Reads, Time}
 

@@ -1,6 +1,6 @@
 use Rattle.history.proofs.Broken.{each_clause_bites}
 use Rattle.history.proofs.Example.{is_history}
-use Rattle.history.proofs.law.clauses_bite.Goals as goal
+use Rattle.history.proofs.examples.clauses_bite.Goals as goal
 
 pub returns-clause-example : goal.returns-clause-example
 returns-clause-example g c = is_history g.K.Ord.cmp

@@ -1,5 +1,5 @@
 use Rattle.history.proofs.Unique.{answers_once, pages_once}
-use Rattle.history.proofs.law.answers_are_unique.Goals as goal
+use Rattle.history.proofs.answers.answers_are_unique.Goals as goal
 
 pub returns-clause-reads : goal.returns-clause-reads
 returns-clause-reads g c = answers_once g.K.Ord.cmp g.met.K.Ord.total g.met.K.KeyKind.law

@@ -1,6 +1,7 @@
 pub mod Lists
 pub mod Places
 pub mod Chains
+pub mod Last
 pub mod Entered
 pub mod Reordering
 pub mod SameVersions

@@ -1,5 +1,8 @@
 -- What is in a list.
-use Rattle.std.proofs.Common.{◌⊎◌, inl, inr, List, [], ◌∷◌, ◌++◌, map, refl, sym, subst, arith}
+use Rattle.std.proofs.Common.{◌≡◌, ℕ, ◌<◌, ◌⊎◌, inl, inr, List, [], ◌∷◌, ◌++◌, get_or, length, map, refl, sym, subst, arith}
+use Rattle.std.specs.Prelude.{take}
+use Rattle.std.proofs.lemmas.Bool.{cases_lt}
+use Rattle.std.proofs.lemmas.List.{get_or_append_left, get_or_push, length-append, take-append-le, take_at}
 use Rattle.store.specs.Newest.{IsIn}
 
 -- what is in two joined lists is in one of them
@@ -17,3 +20,13 @@ pub of_map : {X Y : Type 0} (P : Y → Type 0) (f : X → Y) (xs : List X) → (
 of_map P f [] each y is_in = elim is_in [ ]
 of_map P f (x ∷ xs) each y (inl here) = subst P (sym here) (each x (inl refl))
 of_map P f (x ∷ xs) each y (inr there) = of_map P f xs (λ z is_in. each z (inr is_in)) y there
+
+-- Where each of a list may stand behind those before it, and x behind all, this holds with x at the end too. (d is what stands nowhere.)
+pub one_more : {X : Type 0} (May : List X → X → Type 0) (d : X) (xs : List X) (x : X) → ((j : ℕ) → j < length xs → May (take j xs) (get_or xs j d)) → May xs x
+    → (j : ℕ) → j < length (xs ++ x ∷ []) → May (take j (xs ++ x ∷ [])) (get_or (xs ++ x ∷ []) j d)
+one_more May d xs x each may j inside = elim (cases_lt j (length xs)) [
+  | inl earlier ↦ rw (take-append-le j xs (x ∷ []) (omega (arith, earlier)), get_or_append_left xs (x ∷ []) d j earlier) (each j earlier)
+  | inr last ↦
+      let is : length xs ≡ j = omega (arith, last, inside, length-append xs (x ∷ [])) in
+      rw (take_at xs (x ∷ []) j is, get_or_push xs x d j is) may
+]

@@ -12,8 +12,9 @@ use Rattle.history.specs.Events.{Event, event_at, puts, version_of}
 use Rattle.history.specs.Before.{InOneStep, OnOneNode}
 use Rattle.history.specs.History.{AreEntered, Closed, Cut, Entered, Entry, IsHistory, IsSettled, MayBeWritten, Read, Setup, entry_at, events_of, last_stamp}
 use Rattle.history.specs.Law.{LeavesAnswers}
-use Rattle.history.proofs.Entered.{higher, last_is, not_early}
+use Rattle.history.proofs.Entered.{higher, not_early}
 use Rattle.history.proofs.Entries.{are_entered, event_at-earlier, events_of-append, placed}
+use Rattle.history.proofs.Last.{last_is}
 use Rattle.history.proofs.Lists.{in_append}
 use Rattle.history.proofs.Puts.{of_put, put_at, put_in, puts-append}
 use Rattle.history.proofs.SameVersions.{AreSameUpTo, answers_alike, pages_alike}

@@ -4,15 +4,11 @@ use Rattle.std.specs.List.{filter_map}
 use Rattle.stamps.specs.Stamp.{Timestamp, code_of, zero_stamp}
 use Rattle.store.specs.declared.version.Version.{Version}
 
--- What a node did.
+-- What a node did: a mark of its own; the send, or the receipt, of the message of a number; the put of a value under a key.
 pub data What (K : Type 0) : Type 0 where
-  -- a mark of its own
   Note : What K
-  -- it sent the message of this number
   Send : ℕ → What K
-  -- it received the message of this number
   Receipt : ℕ → What K
-  -- it set the key to the value
   Put : K → ℤ → What K
 
 -- What a node did was accepted, at this reading of its clock, and got this stamp.

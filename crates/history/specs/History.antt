@@ -53,13 +53,11 @@ pub record MayEnter {K : Type 0} (setup : Setup) (earlier : List (Event K)) (e :
 abbrev pub AreEntered : {K : Type 0} → Setup → List (Event K) → Type 0
 AreEntered setup events = (j : ℕ) → j < length events → MayEnter setup (take j events) (event_at events j)
 
--- A history is what a run came to: its events, its answered reads and cuts, and its close, in order. Neither refused calls nor any
--- others are in it.
+-- A history is what a run came to, in order: its events; the reads of a key at a stamp code, each with its answer; the cuts at a stamp
+-- code, each with its rows; and the close. Neither refused calls nor any others are in it.
 pub data Entry (K : Type 0) : Type 0 where
   Entered : Event K → Entry K
-  -- a read of the key at the stamp code, and what it answered
   Read : K → ℕ → Option (Version K) → Entry K
-  -- a cut at the stamp code, and its rows
   Cut : ℕ → List (Version K) → Entry K
   Closed : Entry K
 
@@ -87,10 +85,8 @@ module _ {K : Type 0} (order : K → K → Ordering) (setup : Setup) where
   -- settled stamp, by the puts so far.
   abbrev pub MayBeWritten : List (Entry K) → Entry K → Type 0
   MayBeWritten earlier (Entered e) = (IsIn Closed earlier → ⊥) × MayEnter setup (events_of earlier) e
-  MayBeWritten earlier (Read key stamp answer) =
-      IsSettled setup earlier stamp × IsReadAnswer (puts (events_of earlier)) key stamp answer
-  MayBeWritten earlier (Cut stamp rows) =
-      IsSettled setup earlier stamp × IsPage order (puts (events_of earlier)) stamp rows
+  MayBeWritten earlier (Read key stamp answer) = IsSettled setup earlier stamp × IsReadAnswer (puts (events_of earlier)) key stamp answer
+  MayBeWritten earlier (Cut stamp rows) = IsSettled setup earlier stamp × IsPage order (puts (events_of earlier)) stamp rows
   MayBeWritten earlier Closed = ⊤
 
   -- a history: each of its entries may be written behind those before it

@@ -4,15 +4,15 @@ use Rattle.std.specs.Prelude.{take}
 use Rattle.std.specs.declared.cmp.Ordering.{Ordering}
 use Rattle.std.proofs.lemmas.List.{append-nil, get_or_append_left, take_all, take_more}
 use Rattle.std.proofs.lemmas.List.Elements.{filter_map-append}
-use Rattle.stamps.specs.Stamp.{zero_stamp}
 use Rattle.store.specs.Newest.{IsIn}
-use Rattle.history.specs.Events.{Event, Note, event_at}
-use Rattle.history.specs.History.{AreEntered, Closed, Cut, Entered, Entry, IsHistory, MayBeWritten, MayEnter, Read, Setup, entry_at, event_of, events_of}
+use Rattle.history.specs.Events.{Event, event_at, no_event}
+use Rattle.history.specs.History.{Closed, Cut, Entered, Entry, IsHistory, MayBeWritten, MayEnter, Read, Setup, entry_at, event_of, events_of}
 use Rattle.history.proofs.Lists.{one_more}
+use Rattle.history.proofs.Places.{AreEntered}
 
 module _ {K : Type 0} where
   pub event_at-earlier : (earlier later : List (Event K)) (place : ℕ) → place < length earlier → event_at (earlier ++ later) place ≡ event_at earlier place
-  event_at-earlier earlier later place inside = get_or_append_left earlier later (record { node = 0; reading = 0; stamp = zero_stamp; what = Note }) place inside
+  event_at-earlier earlier later place inside = get_or_append_left earlier later no_event place inside
 
   pub events_of-append : (earlier later : List (Entry K)) → events_of (earlier ++ later) ≡ events_of earlier ++ events_of later
   events_of-append = filter_map-append event_of
@@ -20,7 +20,7 @@ module _ {K : Type 0} where
 module _ {K : Type 0} (order : K → K → Ordering) (setup : Setup) where
   -- the events of one entry more
   enter_entry : (history : List (Entry K)) (entry : Entry K) → AreEntered setup (events_of history) → MayBeWritten order setup history entry → AreEntered setup (events_of history ++ events_of (entry ∷ []))
-  enter_entry history (Entered e) entered may = one_more (MayEnter setup) (record { node = 0; reading = 0; stamp = zero_stamp; what = Note }) (events_of history) e entered may.1
+  enter_entry history (Entered e) entered may = one_more (MayEnter setup) no_event (events_of history) e entered may.1
   enter_entry history (Read key stamp answer) entered may = rw (append-nil (events_of history)) entered
   enter_entry history (Cut stamp rows) entered may = rw (append-nil (events_of history)) entered
   enter_entry history Closed entered may = rw (append-nil (events_of history)) entered

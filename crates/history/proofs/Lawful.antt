@@ -8,9 +8,9 @@ use Rattle.store.specs.Page.{IsPage}
 use Rattle.store.specs.declared.version.Version.{Version}
 use Rattle.history.specs.Events.{puts}
 use Rattle.history.specs.History.{Cut, Entry, IsHistory, IsSettled, MayBeWritten, Read, Setup, events_of}
-use Rattle.history.specs.Law.{Counter, Cuts, IsLawful, Lead, LeavesAnswers, Order, Reads, Time}
+use Rattle.history.specs.Law.{Counter, Cuts, IsLawful, Later, Lead, LeavesAnswers, Reads, Time}
 use Rattle.history.proofs.Chains.{largest, longest}
-use Rattle.history.proofs.Entered.{ahead, follows, higher}
+use Rattle.history.proofs.Stamping.{ahead, follows, higher}
 use Rattle.history.proofs.Entries.{are_entered, placed}
 use Rattle.history.proofs.Settling.{leaves_answers}
 
@@ -39,6 +39,6 @@ module _ {K : Type 0} (order : K → K → Ordering) (setup : Setup) (history : 
   lawful Time = largest (events_of history) (follows (are_entered order setup history written))
   lawful Lead = ahead (are_entered order setup history written)
   lawful Counter = longest (events_of history) (follows (are_entered order setup history written))
-  lawful Order = higher (are_entered order setup history written)
+  lawful Later = higher (are_entered order setup history written)
   lawful Reads = right_reads
   lawful Cuts = right_cuts

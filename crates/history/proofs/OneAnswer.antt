@@ -17,6 +17,7 @@ use Rattle.store.proofs.Adding.{sorted_with_version}
 use Rattle.store.proofs.InWords.{only_answer}
 use Rattle.store.proofs.PageInWords.{only_page}
 use Rattle.history.specs.Events.{Event, event_at, puts, version_of}
+use Rattle.history.proofs.Places.{NodesRise}
 use Rattle.history.proofs.Puts.{IsPutAt, of_put, put_at}
 use Rattle.history.proofs.SameVersions.{AreSameUpTo, answer_carries, page_carries, same_back}
 
@@ -87,10 +88,6 @@ module _ {K : Type 0} where
       pub recorded_sorted : (vs : List (Version K)) → AreRising vs → IsSorted order (recorded vs)
       unfolding IsStrictlySortedBy
       recorded_sorted vs rising = onto_sorted vs [] tt rising (λ w is_in. elim is_in [ ])
-
-  -- along these events the stamps of each node rise
-  abbrev pub NodesRise : List (Event K) → Type 0
-  NodesRise events = (i j : ℕ) → i < j → j < length events → (event_at events i).node ≡ (event_at events j).node → code_of (event_at events i).stamp < code_of (event_at events j).stamp
 
   earlier_than_put : (e : Event K) (events : List (Event K)) (v w : Version K) → NodesRise (e ∷ events) → version_of e e.what ≡ Some v → IsPutAt events w → w.node ≡ v.node → v.stamp < w.stamp
   earlier_than_put e events v w rises is put same =

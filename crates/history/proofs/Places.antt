@@ -3,19 +3,29 @@ use Rattle.std.proofs.Common.{◌≡◌, ℕ, zero, suc, ◌<◌, ◌≤◌, inl
 use Rattle.std.proofs.lemmas.Bool.{cases_order}
 use Rattle.std.proofs.lemmas.List.{get_or-take, length-take-le}
 use Rattle.std.specs.Prelude.{take}
-use Rattle.stamps.specs.Stamp.{zero_stamp}
+use Rattle.stamps.specs.Stamp.{code_of}
 use Rattle.store.specs.Newest.{IsIn}
-use Rattle.history.specs.Events.{Event, Note, event_at}
+use Rattle.history.specs.Events.{Event, event_at, no_event}
 use Rattle.history.specs.Before.{HappenedBefore, InMoreSteps, InOneStep, IsLastSend, IsStep, ByMessage, OnOneNode}
+use Rattle.history.specs.History.{MayEnter, Setup}
 
 module _ {K : Type 0} where
+  -- each of the events may be entered behind those before it
+  abbrev pub AreEntered : Setup → List (Event K) → Type 0
+  AreEntered setup events = (j : ℕ) → j < length events → MayEnter setup (take j events) (event_at events j)
+
+  -- the stamps of each node rise
+  abbrev pub NodesRise : List (Event K) → Type 0
+  NodesRise events = (i j : ℕ) → i < j → j < length events → (event_at events i).node ≡ (event_at events j).node
+      → code_of (event_at events i).stamp < code_of (event_at events j).stamp
+
   pub at_in : (events : List (Event K)) (place : ℕ) → place < length events → IsIn (event_at events place) events
   at_in [] place inside = absurd (omega (arith, inside))
   at_in (e ∷ events) zero inside = inl refl
   at_in (e ∷ events) (suc place) inside = inr (at_in events place (omega (arith, inside)))
 
   pub at_take : (events : List (Event K)) (n place : ℕ) → place < n → event_at (take n events) place ≡ event_at events place
-  at_take events n place before = get_or-take n events place (record { node = 0; reading = 0; stamp = zero_stamp; what = Note }) before
+  at_take events n place before = get_or-take n events place no_event before
 
   pub inside_take : (events : List (Event K)) (n place : ℕ) → place < n → n ≤ length events → place < length (take n events)
   inside_take events n place before within = omega (arith, before, length-take-le n events within)

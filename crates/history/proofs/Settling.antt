@@ -9,28 +9,24 @@ use Rattle.stamps.specs.Stamp.{code_of}
 use Rattle.store.specs.Newest.{IsIn}
 use Rattle.store.specs.declared.version.Version.{Version}
 use Rattle.history.specs.Events.{Event, event_at, puts, version_of}
-use Rattle.history.specs.Before.{InOneStep, OnOneNode}
-use Rattle.history.specs.History.{AreEntered, Closed, Cut, Entered, Entry, IsHistory, IsSettled, MayBeWritten, Read, Setup, entry_at, events_of, last_stamp}
+use Rattle.history.specs.History.{Closed, Cut, Entered, Entry, IsHistory, IsSettled, MayBeWritten, Read, Setup, entry_at, events_of, last_stamp}
 use Rattle.history.specs.Law.{LeavesAnswers}
-use Rattle.history.proofs.Entered.{higher, not_early}
+use Rattle.history.proofs.Stamping.{nodes_rise, not_early}
 use Rattle.history.proofs.Entries.{are_entered, event_at-earlier, events_of-append, placed}
 use Rattle.history.proofs.Last.{last_is}
 use Rattle.history.proofs.Lists.{in_append}
 use Rattle.history.proofs.Puts.{of_put, put_at, put_in, puts-append}
 use Rattle.history.proofs.SameVersions.{AreSameUpTo, answers_alike, pages_alike}
+use Rattle.history.proofs.Places.{AreEntered}
 
 module _ {K : Type 0} {setup : Setup} (earlier later : List (Event K)) (entered : AreEntered setup (earlier ++ later)) where
-  node_higher : (i j : ℕ) → i < j → j < length (earlier ++ later) → (event_at (earlier ++ later) i).node ≡ (event_at (earlier ++ later) j).node
-      → code_of (event_at (earlier ++ later) i).stamp < code_of (event_at (earlier ++ later) j).stamp
-  node_higher i j less inside same = higher entered i j (InOneStep (OnOneNode less inside same))
-
   -- a later event of the node is stamped later than its last one before
   above_last : (node stamp : ℕ) → stamp ≤ code_of (last_stamp earlier node) → (place : ℕ) → length earlier ≤ place → place < length (earlier ++ later) → (event_at (earlier ++ later) place).node ≡ node
       → stamp < code_of (event_at (earlier ++ later) place).stamp
   above_last node stamp passed place behind inside same = elim (last_is node earlier) [
     | inl last ↦
         let is = event_at-earlier earlier later last.0 last.1.inside in
-        let less = node_higher last.0 place (omega (arith, last.1.inside, behind)) inside (ap (λ e. e.node) is ∙ last.1.of_node ∙ sym same) in
+        let less = nodes_rise entered last.0 place (omega (arith, last.1.inside, behind)) inside (ap (λ e. e.node) is ∙ last.1.of_node ∙ sym same) in
         omega (arith, passed, less, ap (λ e. code_of e.stamp) is, ap code_of last.2)
     | inr none ↦ omega (arith, passed, ap code_of none.1, not_early entered place inside, (entered place inside).reading)
   ]
@@ -48,7 +44,7 @@ module _ {K : Type 0} {setup : Setup} (earlier later : List (Event K)) (entered 
           | inr none ↦ absurd (none.0 first.0 inside of_node)
           | inl last ↦ elim (cases_order first.0 last.0) [
             | inl same ↦ omega (arith, passed, code, ap (λ place. code_of (event_at (earlier ++ later) place).stamp) same, ap code_of last.2)
-            | inr (inl less) ↦ omega (arith, passed, code, node_higher first.0 last.0 less last.1.inside (of_node ∙ sym last.1.of_node), ap code_of last.2)
+            | inr (inl less) ↦ omega (arith, passed, code, nodes_rise entered first.0 last.0 less last.1.inside (of_node ∙ sym last.1.of_node), ap code_of last.2)
             | inr (inr more) ↦ absurd (last.1.none_behind first.0 more inside of_node)
           ]
         ]
@@ -71,7 +67,7 @@ module _ {K : Type 0} {setup : Setup} (earlier later : List (Event K)) (entered 
               absurd (omega (arith, below, above, (of_put e e.what v put.is).stamp))
         ]
 
-    pub same_puts : AreSameUpTo stamp (puts earlier) (puts (earlier ++ later))
+    same_puts : AreSameUpTo stamp (puts earlier) (puts (earlier ++ later))
     same_puts = record {
       there = λ v below is_in. subst (IsIn v) (sym (puts-append earlier later)) (in_append v (puts earlier) (puts later) (inl is_in));
       back = not_later;
@@ -98,7 +94,7 @@ module _ {K : Type 0} (order : K → K → Ordering) (setup : Setup) (earlier la
       let may = subst (MayBeWritten order setup (take place (earlier ++ later))) is (written place (omega (arith, at.1, length-append earlier later))) in
       may.0 (subst (IsIn Closed) (sym (take-append-add earlier later at.0)) (in_append Closed earlier (take at.0 later) (inl closed)))
 
-  pub stays_settled : IsSettled setup earlier stamp → IsSettled setup (earlier ++ later) stamp
+  stays_settled : IsSettled setup earlier stamp → IsSettled setup (earlier ++ later) stamp
   stays_settled (inl closed) = inl (in_append Closed earlier later (inl closed))
   stays_settled (inr passed) = inr (λ node is.
       subst (λ events. stamp ≤ code_of (last_stamp events node)) (sym (events_of-append earlier later))

@@ -3,17 +3,18 @@ use Rattle.std.specs.Prelude.{◌≡◌, ◌≢◌, ℕ, ◌<◌, ◌≤◌, ◌
 use Rattle.store.specs.Newest.{IsIn}
 use Rattle.history.specs.Events.{Event, Receipt, Send, event_at}
 
--- The last of these events that sent the message of this number stands at this place.
-pub record IsLastSend {K : Type 0} (events : List (Event K)) (number place : ℕ) : Type 0 where
-  pub inside : place < length events
-  pub sends : (event_at events place).what ≡ Send number
-  pub none_behind : (other : ℕ) → place < other → other < length events → (event_at events other).what ≢ Send number
+-- Event i is the last of these that sent the message of this number.
+pub record IsLastSend {K : Type 0} (events : List (Event K)) (number i : ℕ) : Type 0 where
+  pub inside : i < length events
+  pub sends : (event_at events i).what ≡ Send number
+  pub none_behind : (other : ℕ) → i < other → other < length events → (event_at events other).what ≢ Send number
 
 -- One step from event i to event j: both are of one node and i was accepted earlier; or j is a receipt, and i is the last event
 -- before it that sent its message number.
 pub data IsStep {K : Type 0} (events : List (Event K)) (i j : ℕ) : Type 0 where
   OnOneNode : i < j → j < length events → (event_at events i).node ≡ (event_at events j).node → IsStep events i j
-  ByMessage : (number : ℕ) → j < length events → (event_at events j).what ≡ Receipt number → IsLastSend (take j events) number i → IsStep events i j
+  ByMessage : (number : ℕ) → j < length events → (event_at events j).what ≡ Receipt number → IsLastSend (take j events) number i
+      → IsStep events i j
 
 -- Event i happened before event j: one step leads from i to j, or several one after another do.
 pub data HappenedBefore {K : Type 0} (events : List (Event K)) (i : ℕ) : ℕ → Type 0 where
@@ -21,7 +22,7 @@ pub data HappenedBefore {K : Type 0} (events : List (Event K)) (i : ℕ) : ℕ �
   InMoreSteps : {j k : ℕ} → HappenedBefore events i j → IsStep events j k → HappenedBefore events i k
 
 module _ {K : Type 0} (events : List (Event K)) where
-  -- A chain is a list of events, each of which happened before the next. Its length is the number of its events.
+  -- A chain is a list of places of events, each of which happened before the next. Its length is the number of its events.
   abbrev pub IsChain : List ℕ → Type 0
   IsChain [] = ⊤
   IsChain (i ∷ []) = ⊤
@@ -33,7 +34,7 @@ module _ {K : Type 0} (events : List (Event K)) where
     pub before : (i : ℕ) → IsIn i chain → HappenedBefore events i j
     pub of_its_time : (i : ℕ) → IsIn i chain → (event_at events i).stamp.time ≡ (event_at events j).stamp.time
 
-  -- n is the length of the longest chain of events that happened before event j and have its time: one is so long, and none longer
+  -- n is the length of the longest such chain: one is so long, and none longer
   pub record IsLongestChain (j n : ℕ) : Type 0 where
     pub one : (chain : List ℕ) × IsChainTo j chain × (length chain ≡ n)
     pub none_longer : (chain : List ℕ) → IsChainTo j chain → length chain ≤ n

@@ -18,9 +18,12 @@ pub record Event (K : Type 0) : Type 0 where
   pub stamp : Timestamp
   pub what : What K
 
--- The event at a place. Events stand in the order in which they were accepted, from place 0 on; there is none behind the last.
+abbrev pub no_event : {K : Type 0} → Event K
+no_event = record { node = 0; reading = 0; stamp = zero_stamp; what = Note }
+
+-- Events stand in the order in which they were accepted, from place 0 on; event i is the one at place i. Behind the last there is none.
 abbrev pub event_at : {K : Type 0} → List (Event K) → ℕ → Event K
-event_at events place = slice_index_or events place (record { node = 0; reading = 0; stamp = zero_stamp; what = Note })
+event_at events i = slice_index_or events i no_event
 
 -- the version that an event of this kind put, if it is a put
 abbrev pub version_of : {K : Type 0} → Event K → What K → Option (Version K)

@@ -12,32 +12,33 @@ use Rattle.store.specs.declared.version.Version.{Version}
 use Rattle.history.specs.Events.{Event, Note, Put, Receipt, Send, What, event_at, puts}
 use Rattle.history.specs.Before.{IsLastSend}
 
--- What a recorder is set up with, and how far its bank lets each node's clock fall below an earlier reading.
+-- What a recorder is set up with.
 pub record Setup : Type 0 where
   -- its nodes are 0, 1, and so on: so many
   pub nodes : ℕ
   -- E: by how much a message's time may be above the reading of the node that receives it
   pub lead : ℕ
+  -- by how much each node's clock may fall below an earlier reading
   pub backstep : ℕ → ℕ
 
 -- the stamp of the node's last event, 0.0 if it has none
 abbrev pub last_stamp : {K : Type 0} → List (Event K) → ℕ → Timestamp
 last_stamp events node = unwrap_or (last_or None (map (λ e. e.stamp) (filter (λ e. e.node == node) events))) zero_stamp
 
--- The stamp of a receipt of this number behind `earlier`: by the rule, from the stamp of the message's send, whose time is not
--- above the reading by more than the lead.
-pub record IsReceiptStamp {K : Type 0} (lead : ℕ) (earlier : List (Event K)) (e : Event K) (number : ℕ) : Type 0 where
-  pub place : ℕ
-  pub last_send : IsLastSend earlier number place
-  pub not_ahead : (event_at earlier place).stamp.time ≤ e.reading + lead
-  pub by_rule : e.stamp ≡ receipt_stamp (last_stamp earlier e.node) (event_at earlier place).stamp e.reading
+-- Event e received the message of this number behind `earlier`: it is not above the reading by more than the lead, and e has the
+-- stamp that the rule gives.
+pub record IsReceived {K : Type 0} (lead : ℕ) (earlier : List (Event K)) (e : Event K) (number : ℕ) : Type 0 where
+  pub send : ℕ
+  pub last_send : IsLastSend earlier number send
+  pub not_ahead : (event_at earlier send).stamp.time ≤ e.reading + lead
+  pub by_rule : e.stamp ≡ receipt_stamp (last_stamp earlier e.node) (event_at earlier send).stamp e.reading
 
 -- the stamp of an event that did this behind `earlier` is the one that the stamp rules give
 abbrev pub IsStamped : {K : Type 0} → ℕ → List (Event K) → Event K → What K → Type 0
 IsStamped lead earlier e Note = e.stamp ≡ own_stamp (last_stamp earlier e.node) e.reading
 IsStamped lead earlier e (Send number) = e.stamp ≡ own_stamp (last_stamp earlier e.node) e.reading
 IsStamped lead earlier e (Put key value) = e.stamp ≡ own_stamp (last_stamp earlier e.node) e.reading
-IsStamped lead earlier e (Receipt number) = IsReceiptStamp lead earlier e number
+IsStamped lead earlier e (Receipt number) = IsReceived lead earlier e number
 
 -- Event e may be entered behind the events `earlier`.
 pub record MayEnter {K : Type 0} (setup : Setup) (earlier : List (Event K)) (e : Event K) : Type 0 where
@@ -49,25 +50,21 @@ pub record MayEnter {K : Type 0} (setup : Setup) (earlier : List (Event K)) (e :
   pub stamp : IsStamped setup.lead earlier e e.what
   pub counter : e.stamp.counter ≤ max_counter
 
--- each of the events may be entered behind those before it
-abbrev pub AreEntered : {K : Type 0} → Setup → List (Event K) → Type 0
-AreEntered setup events = (j : ℕ) → j < length events → MayEnter setup (take j events) (event_at events j)
-
 -- A history is what a run came to, in order: its events; the reads of a key at a stamp code, each with its answer; the cuts at a stamp
--- code, each with its rows; and the close. Neither refused calls nor any others are in it.
+-- code, each with its rows, which are as many as it answered; and the close. Neither refused calls nor any others are in it.
 pub data Entry (K : Type 0) : Type 0 where
   Entered : Event K → Entry K
   Read : K → ℕ → Option (Version K) → Entry K
   Cut : ℕ → List (Version K) → Entry K
   Closed : Entry K
 
+-- the events of a history, in order
 abbrev pub event_of : {K : Type 0} → Entry K → Option (Event K)
 event_of (Entered e) = Some e
 event_of (Read key stamp answer) = None
 event_of (Cut stamp rows) = None
 event_of Closed = None
 
--- the events of a history, in order
 abbrev pub events_of : {K : Type 0} → List (Entry K) → List (Event K)
 events_of history = filter_map event_of history
 

@@ -11,7 +11,7 @@ use Rattle.history.specs.History.{Closed, Cut, Entry, IsHistory, IsSettled, Read
 
 -- its clauses
 pub data Clause : Type 0 where
-  Time Lead Counter Order Reads Cuts : Clause
+  Time Lead Counter Later Reads Cuts : Clause
 
 module _ {K : Type 0} (order : K → K → Ordering) (setup : Setup) (history : List (Entry K)) where
   abbrev events : List (Event K)
@@ -21,13 +21,13 @@ module _ {K : Type 0} (order : K → K → Ordering) (setup : Setup) (history : 
   abbrev pub Holds : Clause → Type 0
   -- the time is the largest reading among the event itself and those that happened before it
   Holds Time = (j : ℕ) → j < length events → IsLargestReading events j (event_at events j).stamp.time
-  -- the time is above the event's own reading by the lead and the node's backstep at most
+  -- the time is above the event's own reading by at most the lead plus the node's backstep
   Holds Lead = (j : ℕ) → j < length events
       → (event_at events j).stamp.time ≤ (event_at events j).reading + setup.lead + setup.backstep (event_at events j).node
   -- the counter is the length of the longest chain of events that happened before it and have its time
   Holds Counter = (j : ℕ) → j < length events → IsLongestChain events j (event_at events j).stamp.counter
   -- the stamp is later than that of every event that happened before it
-  Holds Order = (i j : ℕ) → HappenedBefore events i j → code_of (event_at events i).stamp < code_of (event_at events j).stamp
+  Holds Later = (i j : ℕ) → HappenedBefore events i j → code_of (event_at events i).stamp < code_of (event_at events j).stamp
   -- the answer to a read is the newest version of its key at or below the stamp, the higher node among equal stamps, or none: among
   -- all puts of the history, later ones too
   Holds Reads = (key : K) (stamp : ℕ) (answer : Option (Version K))

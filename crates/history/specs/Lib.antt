@@ -3,4 +3,3 @@ pub mod Before
 pub mod History
 pub mod Law
 pub mod Unique
-pub mod Examples

@@ -6,17 +6,7 @@ use Rattle.store.specs.Page.{IsOnlyPage, IsPage}
 use Rattle.store.specs.declared.version.Version.{Version}
 use Rattle.history.specs.Events.{Event, Receipt, Send, event_at, puts}
 use Rattle.history.specs.Before.{IsLastSend}
-use Rattle.history.specs.History.{AreEntered, Setup}
-
--- at each stamp there is exactly one answer to a read of a key
-abbrev pub OneAnswer : Type 0 → Type 0
-OneAnswer K = (setup : Setup) (events : List (Event K)) (key : K) (stamp : ℕ) → AreEntered setup events
-    → (answer : Option (Version K)) × IsOnlyAnswer (puts events) key stamp answer
-
--- and exactly one page
-abbrev pub OnePage : {K : Type 0} → (K → K → Ordering) → Type 0
-OnePage {K} order = (setup : Setup) (events : List (Event K)) (stamp : ℕ) → AreEntered setup events
-    → (rows : List (Version K)) × IsOnlyPage order (puts events) stamp rows
+use Rattle.history.specs.History.{Entry, IsHistory, Setup, events_of}
 
 -- The same events in two orders, which may differ in their stamps: event i of the one is event (to i) of the other, and back.
 -- Each node's own events keep their order.
@@ -38,18 +28,29 @@ abbrev pub AreSentOnce : {K : Type 0} → List (Event K) → Type 0
 AreSentOnce events = (number i j : ℕ) → i < length events → j < length events
     → (event_at events i).what ≡ Send number → (event_at events j).what ≡ Send number → i ≡ j
 
--- what does not depend on the order
-pub record AreSame {K : Type 0} (order : K → K → Ordering) (one other : List (Event K)) (to : ℕ → ℕ) : Type 0 where
-  -- the stamp of each event
-  pub stamps : (i : ℕ) → i < length one → (event_at other (to i)).stamp ≡ (event_at one i).stamp
-  -- what is answered at each stamp
-  pub reads : (key : K) (stamp : ℕ) (answer : Option (Version K)) → IsReadAnswer (puts one) key stamp answer ↔ IsReadAnswer (puts other) key stamp answer
-  pub cuts : (stamp : ℕ) (rows : List (Version K)) → IsPage order (puts one) stamp rows ↔ IsPage order (puts other) stamp rows
+module _ {K : Type 0} (order : K → K → Ordering) where
+  -- at each stamp a history has exactly one answer to a read of a key
+  abbrev pub OneAnswer : Type 0
+  OneAnswer = (setup : Setup) (history : List (Entry K)) → IsHistory order setup history
+      → (key : K) (stamp : ℕ) → (answer : Option (Version K)) × IsOnlyAnswer (puts (events_of history)) key stamp answer
 
--- Stamps, answers and pages are determined by the order of each node's events, their readings, and which send each receipt is of;
--- the last need not be said where each message number is sent once.
-abbrev pub OneStamping : {K : Type 0} → (K → K → Ordering) → Type 0
-OneStamping {K} order = (setup other_setup : Setup) (one other : List (Event K)) (to from : ℕ → ℕ)
-    → AreEntered setup one → AreEntered other_setup other → IsReordering one other to from
-    → KeepsMessages one other to ⊎ AreSentOnce one
-    → AreSame order one other to
+  -- and exactly one page
+  abbrev pub OnePage : Type 0
+  OnePage = (setup : Setup) (history : List (Entry K)) → IsHistory order setup history
+      → (stamp : ℕ) → (rows : List (Version K)) × IsOnlyPage order (puts (events_of history)) stamp rows
+
+  -- what does not depend on the order of events: the stamp of each, and what is right to answer
+  pub record AreSame (one other : List (Event K)) (to : ℕ → ℕ) : Type 0 where
+    pub stamps : (i : ℕ) → i < length one → (event_at other (to i)).stamp ≡ (event_at one i).stamp
+    pub reads : (key : K) (stamp : ℕ) (answer : Option (Version K))
+        → IsReadAnswer (puts one) key stamp answer ↔ IsReadAnswer (puts other) key stamp answer
+    pub cuts : (stamp : ℕ) (rows : List (Version K)) → IsPage order (puts one) stamp rows ↔ IsPage order (puts other) stamp rows
+
+  -- Two histories have the same stamps, answers and pages if their events are the same but for their order and, it may be, their
+  -- stamps, and each receipt is of the same send, which is so by itself where each message number is sent once.
+  abbrev pub OneStamping : Type 0
+  OneStamping = (setup other_setup : Setup) (one other : List (Entry K)) (to from : ℕ → ℕ)
+      → IsHistory order setup one → IsHistory order other_setup other
+      → IsReordering (events_of one) (events_of other) to from
+      → KeepsMessages (events_of one) (events_of other) to ⊎ AreSentOnce (events_of one)
+      → AreSame (events_of one) (events_of other) to

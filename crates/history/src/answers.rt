@@ -7,7 +7,7 @@ use keys::kind::KeyKind;
 // Whether a history has exactly one answer to each read, and exactly one page at each stamp.
 pub fn answers_are_unique<K: KeyKind>() -> bool
     ensures answer { result ≡ true }
-    ensures reads { OneAnswer K }
+    ensures reads { OneAnswer K.cmp }
     ensures cuts { OnePage K.cmp }
 {
     true

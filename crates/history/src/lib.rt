@@ -2,7 +2,6 @@
 #![tactic(auto)]
 
 pub mod answers;
-pub mod examples;
 pub mod law;
 pub mod orders;
 pub mod settled;

@@ -3,10 +3,10 @@ use Rattle.std.proofs.Common.{◌≡◌, ℕ, ◌<◌, ◌≤◌, ◌⊎◌, inl
 use Rattle.std.proofs.lemmas.Bool.{cases_order}
 use Rattle.std.proofs.lemmas.List.{length-map, length-take-le}
 use Rattle.history.specs.Before.{ByMessage, HappenedBefore, InMoreSteps, InOneStep, IsChain, IsChainTo, IsLargestReading, IsLastSend, IsLongestChain, IsStep, IsUpTo, OnOneNode}
-use Rattle.history.specs.History.{AreEntered, IsReceiptStamp, IsStamped, Setup}
+use Rattle.history.specs.History.{IsReceived, IsStamped, Setup}
 use Rattle.history.specs.Events.{Event, Receipt, Send, event_at}
 use Rattle.history.proofs.Lists.{of_map}
-use Rattle.history.proofs.Places.{at_take, before_less, before_to, last_send_once}
+use Rattle.history.proofs.Places.{AreEntered, at_take, before_less, before_to, last_send_once}
 use Rattle.history.specs.Unique.{AreSentOnce, IsReordering, KeepsMessages}
 
 module _ {K : Type 0} (events : List (Event K)) where
@@ -26,7 +26,7 @@ module _ {K : Type 0} (events : List (Event K)) where
 
   -- an entered receipt has the stamp of one
   receipt_of : {setup : Setup} (j number : ℕ) → AreEntered setup events → j < length events → (event_at events j).what ≡ Receipt number
-      → IsReceiptStamp setup.lead (take j events) (event_at events j) number
+      → IsReceived setup.lead (take j events) (event_at events j) number
   receipt_of {setup} j number entered inside is = subst (IsStamped setup.lead (take j events) (event_at events j)) is (entered j inside).stamp
 
 module _ {K : Type 0} {one other : List (Event K)} {to from : ℕ → ℕ} (moved : IsReordering one other to from) where
@@ -65,9 +65,9 @@ module _ {K : Type 0} {one other : List (Event K)} {to from : ℕ → ℕ} (move
       let receipt = receipt_of other (to j) number entered moved_inside (moved.what j inside ∙ is) in
       let send = earlier_send other (to j) moved_inside receipt.last_send in
       let first = earlier_send one j inside last in
-      let back = moved.back receipt.place (omega arith) in
-      let sends = kept_back (λ e. e.what) moved.what receipt.place (omega arith) ∙ send.1 in
-      let same = once number (from receipt.place) i back.0 (omega arith) sends first.1 in
+      let back = moved.back receipt.send (omega arith) in
+      let sends = kept_back (λ e. e.what) moved.what receipt.send (omega arith) ∙ send.1 in
+      let same = once number (from receipt.send) i back.0 (omega arith) sends first.1 in
       subst (IsLastSend (take (to j) other) number) (sym back.1 ∙ ap to same) receipt.last_send
 
   keeps_back : {setup : Setup} → AreEntered setup one → KeepsMessages one other to → KeepsMessages other one from
@@ -76,8 +76,8 @@ module _ {K : Type 0} {one other : List (Event K)} {to from : ℕ → ℕ} (move
       let receipt_is = kept_back (λ e. e.what) moved.what j inside ∙ is in
       let receipt = receipt_of one (from j) number entered back.0 receipt_is in
       let send = earlier_send one (from j) back.0 receipt.last_send in
-      let there = subst (λ place. IsLastSend (take place other) number (to receipt.place)) back.1 (keeps number receipt.place (from j) back.0 receipt_is receipt.last_send) in
-      let same = sym (moved.there receipt.place (omega arith)).1 ∙ ap from (last_send_once there last) in
+      let there = subst (λ place. IsLastSend (take place other) number (to receipt.send)) back.1 (keeps number receipt.send (from j) back.0 receipt_is receipt.last_send) in
+      let same = sym (moved.there receipt.send (omega arith)).1 ∙ ap from (last_send_once there last) in
       subst (IsLastSend (take (from j) one) number) same receipt.last_send
 
   module _ (keeps : KeepsMessages one other to) where

@@ -7,14 +7,14 @@ use Rattle.std.proofs.lemmas.List.{length-take-le}
 use Rattle.stamps.specs.Rules.{own_stamp, receipt_stamp}
 use Rattle.stamps.specs.Stamp.{Timestamp, code_of}
 use Rattle.history.specs.Events.{Event, Note, Put, Receipt, Send, What, event_at}
-use Rattle.history.specs.Before.{ByMessage, HappenedBefore, IsLastSend, IsStep, OnOneNode}
-use Rattle.history.specs.History.{AreEntered, IsReceiptStamp, IsStamped, Setup, last_stamp}
+use Rattle.history.specs.Before.{ByMessage, HappenedBefore, InOneStep, IsLastSend, IsStep, OnOneNode}
+use Rattle.history.specs.History.{IsReceived, IsStamped, Setup, last_stamp}
 use Rattle.history.proofs.Last.{last_is}
-use Rattle.history.proofs.Places.{at_in, at_take, before_less, before_to, inside_take, last_send_once, step_less}
+use Rattle.history.proofs.Places.{AreEntered, NodesRise, at_in, at_take, before_less, before_to, inside_take, last_send_once, step_less}
 use Rattle.history.proofs.Chains.{Follows, IsLater, later, later_through}
 
 -- An own stamp is that of a receipt of one's own last stamp, so there is one rule.
-pub own_is_receipt : (last : Timestamp) (reading : ℕ) → own_stamp last reading ≡ receipt_stamp last last reading
+own_is_receipt : (last : Timestamp) (reading : ℕ) → own_stamp last reading ≡ receipt_stamp last last reading
 own_is_receipt last reading =
     let time : (own_stamp last reading).time ≡ (receipt_stamp last last reading).time = omega arith in
     let counter : (own_stamp last reading).counter ≡ (receipt_stamp last last reading).counter = grind (arith, nat_tests) in
@@ -22,10 +22,10 @@ own_is_receipt last reading =
 
 -- what the rule says
 module _ (last sent : Timestamp) (reading : ℕ) where
-  pub after_last : IsLater last (receipt_stamp last sent reading)
+  after_last : IsLater last (receipt_stamp last sent reading)
   after_last = record { time = omega arith; counter = λ same. grind (arith, nat_tests) }
 
-  pub after_sent : IsLater sent (receipt_stamp last sent reading)
+  after_sent : IsLater sent (receipt_stamp last sent reading)
   after_sent = record { time = omega arith; counter = λ same. grind (arith, nat_tests) }
 
   time_from : (reading ≡ (receipt_stamp last sent reading).time) ⊎ ((last.time ≡ (receipt_stamp last sent reading).time) ⊎ (sent.time ≡ (receipt_stamp last sent reading).time))
@@ -56,17 +56,17 @@ module _ {K : Type 0} where
   }
 
   receipt_is_ruled : (lead : ℕ) (events : List (Event K)) (j number : ℕ) → j < length events → (event_at events j).what ≡ Receipt number
-      → IsReceiptStamp lead (take j events) (event_at events j) number → IsRuled lead events j
+      → IsReceived lead (take j events) (event_at events j) number → IsRuled lead events j
   receipt_is_ruled lead events j number inside receipt stamped =
-      let less : stamped.place < j = omega (arith, stamped.last_send.inside, inside, length-take-le j events (omega (arith, inside))) in
-      let same = at_take events j stamped.place less in
+      let less : stamped.send < j = omega (arith, stamped.last_send.inside, inside, length-take-le j events (omega (arith, inside))) in
+      let same = at_take events j stamped.send less in
       record {
-        sent = (event_at (take j events) stamped.place).stamp;
+        sent = (event_at (take j events) stamped.send).stamp;
         by_rule = stamped.by_rule;
-        source = inr (stamped.place, ByMessage number inside receipt stamped.last_send, ap (λ e. e.stamp) (sym same), stamped.not_ahead);
+        source = inr (stamped.send, ByMessage number inside receipt stamped.last_send, ap (λ e. e.stamp) (sym same), stamped.not_ahead);
         of_message = λ other i receipt′ last.
             let numbers : other ≡ number = cc (receipt, receipt′) in
-            let places : i ≡ stamped.place = last_send_once (subst (λ n. IsLastSend (take j events) n i) numbers last) stamped.last_send in
+            let places : i ≡ stamped.send = last_send_once (subst (λ n. IsLastSend (take j events) n i) numbers last) stamped.last_send in
             ap (λ k. (event_at events k).stamp) places ∙ ap (λ e. e.stamp) (sym same);
       }
 
@@ -125,7 +125,7 @@ module _ {K : Type 0} {setup : Setup} {events : List (Event K)} (entered : AreEn
     | inr none ↦ absurd (none.0 i (omega (arith, less, length-take-le j events (omega (arith, inside)))) (ap (λ e. e.node) (at_take events j i less) ∙ same))
   ]
 
-  pub rises_on_node : (i j : ℕ) → i < j → j < length events → (event_at events i).node ≡ (event_at events j).node → IsLater (event_at events i).stamp (event_at events j).stamp
+  rises_on_node : (i j : ℕ) → i < j → j < length events → (event_at events i).node ≡ (event_at events j).node → IsLater (event_at events i).stamp (event_at events j).stamp
   rises_on_node i j less inside same = rise (suc j) i j (omega arith) less inside same
 
   later_step : (i j : ℕ) → IsStep events i j → IsLater (event_at events i).stamp (event_at events j).stamp
@@ -244,3 +244,6 @@ module _ {K : Type 0} {setup : Setup} {events : List (Event K)} (entered : AreEn
       let less = before_less before in
       let fits = (entered i (omega (arith, less, before_to before))).counter in
       grind (arith, after.time, after.counter, fits)
+
+  pub nodes_rise : NodesRise events
+  nodes_rise i j less inside same = higher i j (InOneStep (OnOneNode less inside same))

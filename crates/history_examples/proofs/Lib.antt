@@ -1,0 +1,3 @@
+pub mod SmallHistory
+pub mod Orders
+pub mod Broken

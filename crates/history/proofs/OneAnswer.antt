@@ -1,5 +1,5 @@
 -- Puts have exactly one answer and one page at each stamp, since a store that they are put into, one after another, has them in order.
-use Rattle.std.proofs.Common.{◌≡◌, ℕ, suc, ◌<◌, ◌⊎◌, inl, inr, false, List, [], ◌∷◌, length, Some, None, Option, refl, sym, ◌∙◌, subst, arith}
+use Rattle.std.proofs.Common.{◌≡◌, ℕ, suc, ◌<◌, ◌⊎◌, inl, inr, false, List, [], ◌∷◌, Some, None, Option, refl, sym, ◌∙◌, subst, arith}
 use Rattle.std.specs.Cmp.{IsTotalOrder}
 use Rattle.std.specs.declared.cmp.Ordering.{Ordering}
 use Rattle.std.specs.List.{cons_option, fold}
@@ -8,7 +8,6 @@ use Rattle.std.specs.Ordering.{is_eq}
 use Rattle.std.proofs.lemmas.Bool.{or_from}
 use Rattle.std.proofs.lemmas.Bool.Decides.{nat_tests}
 use Rattle.keys.specs.Order.{IsKeyOrder}
-use Rattle.stamps.specs.Stamp.{code_of}
 use Rattle.store.specs.Newest.{IsIn, IsOnlyAnswer, newest}
 use Rattle.store.specs.Page.{IsOnlyPage, page}
 use Rattle.store.specs.Versions.{IsSorted, has_id, id_cmp, with_version}

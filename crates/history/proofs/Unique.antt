@@ -27,7 +27,7 @@ module _ {K : Type 0} (order : K → K → Ordering) where
       let follow = follows entered in
       let other_follow = follows other_entered in
       let same = stamps_same entered other_entered (largest (events_of one) follow) (longest (events_of one) follow)
-          (largest (events_of other) other_follow) (longest (events_of other) other_follow) moved messages in
+      (largest (events_of other) other_follow) (longest (events_of other) other_follow) moved messages in
       record {
         stamps = same;
         reads = λ key stamp answer. answers_alike (puts_same moved same stamp) key answer;

@@ -8,15 +8,15 @@ use Rattle.std.proofs.lemmas.List.{append_assoc}
 use Rattle.history.specs.Events.{Event, Note, event_at}
 use Rattle.history.specs.Before.{HappenedBefore, InOneStep, IsChainTo, IsLargestReading, IsLongestChain, IsStep, OnOneNode}
 use Rattle.history.specs.History.{Cut, Entered, Entry, Read, events_of}
-use Rattle.history.specs.Law.{Clause, Counter, Cuts, Holds, Lead, Order, Reads, Time}
-use Rattle.history.specs.Examples.{BreaksOnly, EachClauseBites, broken, did, first_put, notes, small_setup}
+use Rattle.history.specs.Law.{Clause, Counter, Cuts, Holds, Later, Lead, Reads, Time}
+use Rattle.history_examples.specs.Examples.{BreaksOnly, EachClauseBites, TooLowBites, broken, did, first_put, notes, small_setup, too_low}
 use Rattle.history.proofs.Chains.{Follows, largest, longest}
-use Rattle.history.proofs.Example.{has_kind, none_of_kind}
+use Rattle.history_examples.proofs.SmallHistory.{has_kind, none_of_kind}
 use Rattle.history.proofs.Places.{before_less, before_to, step_less}
 
 -- clause by clause
-each : (P : Clause → Type 0) → P Time → P Lead → P Counter → P Order → P Reads → P Cuts → (clause : Clause) → P clause
-each P time lead counter order reads cuts clause = elim clause as P [ Time ↦ time | Lead ↦ lead | Counter ↦ counter | Order ↦ order | Reads ↦ reads | Cuts ↦ cuts ]
+each : (P : Clause → Type 0) → P Time → P Lead → P Counter → P Later → P Reads → P Cuts → (clause : Clause) → P clause
+each P time lead counter later reads cuts clause = elim clause as P [ Time ↦ time | Lead ↦ lead | Counter ↦ counter | Later ↦ later | Reads ↦ reads | Cuts ↦ cuts ]
 
 first : (j : ℕ) → j < 1 → j ≡ 0
 first j below = omega arith
@@ -29,7 +29,22 @@ module _ {K : Type 0} (order : K → K → Ordering) (history : List (Entry K)) 
   no_cuts : has_kind 2 history ≡ false → Holds order small_setup history Cuts
   no_cuts none stamp rows is_in = absurd (none_of_kind 2 history none (Cut stamp rows) is_in refl)
 
--- one event alone: nothing happened before it
+-- nothing happened before the first event
+module _ {K : Type 0} (events : List (Event K)) where
+  none_before : (chain : List ℕ) → IsChainTo events 0 chain → length chain ≡ 0
+  none_before [] to = refl
+  none_before (i ∷ chain) to = absurd (omega (arith, before_less (to.before i (inl refl))))
+
+  longest_first : IsLongestChain events 0 0
+  longest_first = record {
+    one = ([], record { is_chain = tt; before = λ i is_in. elim is_in [ ]; of_its_time = λ i is_in. elim is_in [ ] }, refl);
+    none_longer = λ chain to. omega (arith, none_before chain to);
+  }
+
+  longest_is : (n : ℕ) → IsLongestChain events 0 n → n ≡ 0
+  longest_is n is = sym is.one.2 ∙ none_before is.one.0 is.one.1
+
+-- one event alone
 module _ {K : Type 0} (e : Event K) where
   never : {A : Type 0} (i j : ℕ) → HappenedBefore (e ∷ []) i j → A
   never i j before = absurd (omega (arith, before_less before, before_to before))
@@ -43,34 +58,21 @@ module _ {K : Type 0} (e : Event K) where
   largest_is : (t : ℕ) → IsLargestReading (e ∷ []) 0 t → e.reading ≡ t
   largest_is t is = elim is.one.1 [ inl here ↦ ap (λ i. (event_at (e ∷ []) i).reading) (sym here) ∙ is.one.2 | inr before ↦ never is.one.0 0 before ]
 
-  none_before : (chain : List ℕ) → IsChainTo (e ∷ []) 0 chain → length chain ≡ 0
-  none_before [] to = refl
-  none_before (i ∷ chain) to = never i 0 (to.before i (inl refl))
-
-  longest_alone : IsLongestChain (e ∷ []) 0 0
-  longest_alone = record {
-    one = ([], record { is_chain = tt; before = λ i is_in. elim is_in [ ]; of_its_time = λ i is_in. elim is_in [ ] }, refl);
-    none_longer = λ chain to. omega (arith, none_before chain to);
-  }
-
-  longest_is : (n : ℕ) → IsLongestChain (e ∷ []) 0 n → n ≡ 0
-  longest_is n is = sym is.one.2 ∙ none_before is.one.0 is.one.1
-
   module _ (order : K → K → Ordering) (history : List (Entry K)) (is : events_of history ≡ e ∷ []) where
     -- what each clause then asks for
     abbrev Asks : Clause → Type 0
     Asks Time = e.reading ≡ e.stamp.time
     Asks Lead = e.stamp.time ≤ e.reading + 500 + 20
     Asks Counter = e.stamp.counter ≡ 0
-    Asks Order = Unit {0}
+    Asks Later = Unit {0}
     Asks Reads = has_kind 1 history ≡ false
     Asks Cuts = has_kind 2 history ≡ false
 
     holds : (clause : Clause) → Asks clause → Holds order small_setup history clause
     holds Time asked = rw is (λ j below. rw (first j below) (subst (IsLargestReading (e ∷ []) 0) asked largest_alone))
     holds Lead asked = rw is (λ j below. rw (first j below) asked)
-    holds Counter asked = rw is (λ j below. rw (first j below) (subst (IsLongestChain (e ∷ []) 0) (sym asked) longest_alone))
-    holds Order asked = rw is (λ i j before. never i j before)
+    holds Counter asked = rw is (λ j below. rw (first j below) (subst (IsLongestChain (e ∷ []) 0) (sym asked) (longest_first (e ∷ []))))
+    holds Later asked = rw is (λ i j before. never i j before)
     holds Reads asked = no_reads order history asked
     holds Cuts asked = no_cuts order history asked
 
@@ -141,7 +143,7 @@ module _ {K : Type 0} (order : K → K → Ordering) (n reading time counter : �
     follows : (j : ℕ) → j < length marks → Follows marks j
     follows j inside = below_more (Follows marks) n note_follows of_last j (rw count at inside)
 
-    follows_breaks : (clause : Clause) → (Holds order small_setup ramp clause → ⊥) → (Lead ≢ clause → Holds order small_setup ramp Lead) → (Order ≢ clause → Holds order small_setup ramp Order)
+    follows_breaks : (clause : Clause) → (Holds order small_setup ramp clause → ⊥) → (Lead ≢ clause → Holds order small_setup ramp Lead) → (Later ≢ clause → Holds order small_setup ramp Later)
         → BreaksOnly order ramp clause
     follows_breaks clause not lead later = record {
       breaks = not;
@@ -149,12 +151,17 @@ module _ {K : Type 0} (order : K → K → Ordering) (n reading time counter : �
           (λ is. no_reads order ramp (without 1 n (Entered last ∷ []) refl refl)) (λ is. no_cuts order ramp (without 2 n (Entered last ∷ []) refl refl));
     }
 
--- one note and one at a slow clock
+-- one note and another
 module _ {K : Type 0} (order : K → K → Ordering) where
-  lead_bites : BreaksOnly order (ramp order 1 100 1000 1) Lead
+  one_rises : (reading : ℕ) → Holds order small_setup (ramp order 1 reading 1000 1) Later
+  one_rises reading i j before =
+      let end : j ≡ 1 = omega (arith, before_less before, before_to before) in
+      rw (end, first i (omega (arith, before_less before))) (lit< tt)
+
+  lead_bites : BreaksOnly order (ramp order 1 479 1000 1) Lead
   lead_bites =
-      let from = step order 1 100 1000 1 0 1 (lit< tt) (lit< tt) in
-      follows_breaks order 1 100 1000 1 (record {
+      let from = step order 1 479 1000 1 0 1 (lit< tt) (lit< tt) in
+      follows_breaks order 1 479 1000 1 (record {
         later = λ i to. rw (first i (step_less to)) (record { time = lit≤ tt; counter = λ same. lit< tt });
         own = lit≤ tt;
         time = inr (0, from, refl);
@@ -162,31 +169,63 @@ module _ {K : Type 0} (order : K → K → Ordering) where
       }) Lead
       (λ h. omega (arith, h 1 (lit< tt)))
       (λ is. absurd (is refl))
-      (λ is i j before. let end : j ≡ 1 = omega (arith, before_less before, before_to before) in rw (end, first i (omega (arith, before_less before))) (lit< tt))
+      (λ is. one_rises 479)
 
-  -- 65537 notes and one of the next millisecond: the code of the last note's stamp is its stamp's too
-  order_bites : (m : ℕ) → m ≡ 65536 → BreaksOnly order (ramp order (suc m) 1001 1001 0) Order
-  order_bites m is =
+  -- 65537 notes and one of the next millisecond: the last note has the code of 1001.0
+  later_bites : (m : ℕ) → m ≡ 65536 → BreaksOnly order (ramp order (suc m) 1001 1001 0) Later
+  later_bites m is =
       let end = at_last order (suc m) 1001 1001 0 in
       follows_breaks order (suc m) 1001 1001 0 (record {
         later = λ i from. rw (at_note (suc m) i _ (step_less from), end) (record { time = lit≤ tt; counter = λ same. absurd (omega (arith, same)) });
         own = rw end (lit≤ tt);
         time = inl (rw end refl);
         counter = inl (rw end refl);
-      }) Order
+      }) Later
       (λ h. omega (arith, is, rw (at_note (suc m) m _ (omega arith), end) at (h m (suc m) (InOneStep (step order (suc m) 1001 1001 0 m (suc m) (omega arith) (omega arith))))))
       (λ is j inside. each_event order (suc m) 1001 1001 0 (λ e. e.stamp.time ≤ e.reading + 500 + 20) (λ i. lit≤ tt) (lit≤ tt) j (omega (arith, rw count at inside)))
       (λ is. absurd (is refl))
 
-  -- the other four are of one event
+  -- two notes, of which the other has a larger reading than its time
+  abbrev low : List (Event K)
+  low = marks order 1 1001 1000 1
+
+  short : (chain : List ℕ) → IsChainTo low 1 chain → length chain ≤ 1
+  short [] to = omega arith
+  short (i ∷ []) to = omega arith
+  short (i ∷ k ∷ chain) to = absurd (omega (arith, before_less to.is_chain.0, before_less (to.before k (inr (inl refl)))))
+
+  low_counters : (j : ℕ) → j < 2 → IsLongestChain low j (event_at low j).stamp.counter
+  low_counters zero inside = longest_first low
+  low_counters (suc zero) inside = record {
+    one = (
+      0 ∷ [],
+      record {
+        is_chain = tt;
+        before = λ i is_in. elim is_in [ inl here ↦ rw here (InOneStep (step order 1 1001 1000 1 0 1 (lit< tt) (lit< tt))) | inr there ↦ elim there [ ] ];
+        of_its_time = λ i is_in. elim is_in [ inl here ↦ rw here refl | inr there ↦ elim there [ ] ];
+      },
+      refl,
+    );
+    none_longer = short;
+  }
+  low_counters (suc (suc j)) inside = absurd (omega (arith, inside))
+
+  pub too_low_bites : TooLowBites order
+  too_low_bites = record {
+    breaks = λ h. omega (arith, (h 1 (lit< tt)).none_larger 1 (inl refl));
+    others = each _ (λ is. absurd (is refl)) (λ is j inside. each_event order 1 1001 1000 1 (λ e. e.stamp.time ≤ e.reading + 500 + 20) (λ i. lit≤ tt) (lit≤ tt) j inside)
+        (λ is. low_counters) (λ is. one_rises 1001) (λ is. no_reads order too_low refl) (λ is. no_cuts order too_low refl);
+  }
+
+  -- four are of one event
   pub each_clause_bites : EachClauseBites order
   each_clause_bites key Time = breaks _ order (broken key Time) refl Time (λ h. omega (arith, largest_is _ 1001 (h 0 (lit< tt))))
       (each _ (inl refl) (inr (lit≤ tt)) (inr refl) (inr tt) (inr refl) (inr refl))
   each_clause_bites key Lead = lead_bites
   each_clause_bites key Counter = breaks _ order (broken key Counter) refl Counter (λ h. omega (arith, longest_is _ 1 (h 0 (lit< tt))))
       (each _ (inr refl) (inr (lit≤ tt)) (inl refl) (inr tt) (inr refl) (inr refl))
-  each_clause_bites key Order = order_bites 65536 refl
-  each_clause_bites key Reads = breaks _ order (broken key Reads) refl Reads (λ h. omega (arith, h key 65536000 None (inr (inl refl)) (first_put key) (inl refl) refl))
+  each_clause_bites key Later = later_bites 65536 refl
+  each_clause_bites key Reads = breaks _ order (broken key Reads) refl Reads (λ h. omega (arith, h key 65536000 None (inl refl) (first_put key) (inl refl) refl))
       (each _ (inr refl) (inr (lit≤ tt)) (inr refl) (inr tt) (inl refl) (inr refl))
-  each_clause_bites key Cuts = breaks _ order (broken key Cuts) refl Cuts (λ h. elim ((h 65536000 [] (inr (inl refl))).complete (first_put key) (inl refl) (lit≤ tt)).1 [ ])
+  each_clause_bites key Cuts = breaks _ order (broken key Cuts) refl Cuts (λ h. elim ((h 65536000 [] (inl refl)).complete (first_put key) (inl refl) (lit≤ tt)).1 [ ])
       (each _ (inr refl) (inr (lit≤ tt)) (inr refl) (inr tt) (inr refl) (inl refl))

@@ -2,14 +2,18 @@
 use Rattle.std.specs.Prelude.{◌≢◌, ℕ, zero, suc, ◌-◌, ◌++◌, negsuc, if◌then◌else◌, nat_le, List, [], ◌∷◌, None, Some}
 use Rattle.std.specs.declared.cmp.Ordering.{Ordering}
 use Rattle.store.specs.declared.version.Version.{Version}
-use Rattle.history.specs.Events.{Event, Note, Put, Receipt, Send, What}
+use Rattle.history.specs.Events.{Note, Put, Receipt, Send, What}
 use Rattle.history.specs.History.{Closed, Cut, Entered, Entry, IsHistory, Read, Setup, events_of}
 use Rattle.history.specs.Law.{Clause, Counter, Cuts, Holds, Later, Lead, Reads, Time}
-use Rattle.history.specs.Unique.{AreSentOnce, IsReordering, KeepsMessages}
+use Rattle.history.specs.Unique.{AreSentOnce, IsReordering}
 
 -- two nodes, whose clocks may fall by 20 ms; messages may be ahead by 500 ms
 abbrev pub small_setup : Setup
 small_setup = record { nodes = 2; lead = 500; backstep = λ node. 20 }
+
+-- where each event of the first order below stands in the other
+abbrev pub crossed : ℕ → ℕ
+crossed i = (if nat_le i 1 then 1 - i else i)
 
 module _ {K : Type 0} where
   -- the node did this at the reading, stamped time.counter
@@ -47,15 +51,12 @@ module _ {K : Type 0} where
       ∷ Closed
       ∷ []
 
-  -- the same three events in two orders, and where each of the one stands in the other
+  -- the same three events in two orders
   abbrev pub one_order : List (Entry K)
   one_order = did 0 1 1 0 (Send 1) ∷ did 1 1 1 0 Note ∷ did 1 1 1 1 (Receipt 1) ∷ []
 
   abbrev pub other_order : List (Entry K)
   other_order = did 1 1 1 0 Note ∷ did 0 1 1 0 (Send 1) ∷ did 1 1 1 1 (Receipt 1) ∷ []
-
-  abbrev pub crossed : ℕ → ℕ
-  crossed i = (if nat_le i 1 then 1 - i else i)
 
   -- so many notes of node 0 at the reading 1000, stamped 1000.0, 1000.1, and so on
   abbrev pub notes : ℕ → List (Entry K)
@@ -95,9 +96,12 @@ module _ {K : Type 0} (order : K → K → Ordering) where
   pub record ExampleIsReordered : Type 0 where
     pub one : IsHistory order small_setup one_order
     pub other : IsHistory order small_setup other_order
-    pub same : IsReordering (events_of one_order) (events_of other_order) crossed crossed
-    pub once : AreSentOnce (events_of one_order)
+    pub same : IsReordering {K = K} (events_of one_order) (events_of other_order) crossed crossed
+    pub once : AreSentOnce {K = K} (events_of one_order)
 
   -- no clause of the law is empty
   abbrev pub EachClauseBites : Type 0
-  EachClauseBites = ((key : K) (clause : Clause) → BreaksOnly (broken key clause) clause) × BreaksOnly too_low Time
+  EachClauseBites = (key : K) (clause : Clause) → BreaksOnly (broken key clause) clause
+
+  abbrev pub TooLowBites : Type 0
+  TooLowBites = BreaksOnly too_low Time

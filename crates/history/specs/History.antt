@@ -25,8 +25,8 @@ pub record Setup : Type 0 where
 abbrev pub last_stamp : {K : Type 0} → List (Event K) → ℕ → Timestamp
 last_stamp events node = unwrap_or (last_or None (map (λ e. e.stamp) (filter (λ e. e.node == node) events))) zero_stamp
 
--- Event e received the message of this number behind `earlier`: it is not above the reading by more than the lead, and e has the
--- stamp that the rule gives.
+-- Event e received the message of this number behind `earlier`: the time of its send is not above the reading by more than the lead,
+-- and e has the stamp that the rule gives.
 pub record IsReceived {K : Type 0} (lead : ℕ) (earlier : List (Event K)) (e : Event K) (number : ℕ) : Type 0 where
   pub send : ℕ
   pub last_send : IsLastSend earlier number send

@@ -103,5 +103,6 @@ module _ {K : Type 0} (order : K → K → Ordering) where
   abbrev pub EachClauseBites : Type 0
   EachClauseBites = (key : K) (clause : Clause) → BreaksOnly (broken key clause) clause
 
+  -- nor is half of the first
   abbrev pub TooLowBites : Type 0
   TooLowBites = BreaksOnly too_low Time

@@ -22,7 +22,7 @@ module _ {K : Type 0} (order : K → K → Ordering) (setup : Setup) where
   enter_entry : (history : List (Entry K)) (entry : Entry K) → AreEntered setup (events_of history) → MayBeWritten order setup history entry → AreEntered setup (events_of history ++ events_of (entry ∷ []))
   enter_entry history (Entered e) entered may = one_more (MayEnter setup) no_event (events_of history) e entered may.1
   enter_entry history (Read key stamp answer) entered may = rw (append-nil (events_of history)) entered
-  enter_entry history (Cut stamp rows) entered may = rw (append-nil (events_of history)) entered
+  enter_entry history (Cut stamp count rows) entered may = rw (append-nil (events_of history)) entered
   enter_entry history Closed entered may = rw (append-nil (events_of history)) entered
 
   entered_up_to : (history : List (Entry K)) (n : ℕ) → n ≤ length history → IsHistory order setup history → AreEntered setup (events_of (take n history))

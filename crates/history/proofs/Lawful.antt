@@ -1,5 +1,5 @@
 -- Every history is lawful.
-use Rattle.std.proofs.Common.{◌≡◌, ℕ, ◌++◌, List, Option, sym, subst}
+use Rattle.std.proofs.Common.{◌≡◌, ℕ, ◌++◌, List, length, Option, sym, subst}
 use Rattle.std.specs.Prelude.{drop, take}
 use Rattle.std.specs.declared.cmp.Ordering.{Ordering}
 use Rattle.std.proofs.lemmas.List.{take-append-drop}
@@ -8,7 +8,7 @@ use Rattle.store.specs.Page.{IsPage}
 use Rattle.store.specs.declared.version.Version.{Version}
 use Rattle.history.specs.Events.{puts}
 use Rattle.history.specs.History.{Cut, Entry, IsHistory, IsSettled, MayBeWritten, Read, Setup, events_of}
-use Rattle.history.specs.Law.{Counter, Cuts, IsLawful, Later, Lead, LeavesAnswers, Reads, Time}
+use Rattle.history.specs.Law.{Counter, Cuts, Drift, IsLawful, Later, LeavesAnswers, Reads, Time}
 use Rattle.history.proofs.Chains.{largest, longest}
 use Rattle.history.proofs.Stamping.{ahead, follows, higher}
 use Rattle.history.proofs.Entries.{are_entered, placed}
@@ -30,14 +30,14 @@ module _ {K : Type 0} (order : K → K → Ordering) (setup : Setup) (history : 
       let may = behind (Read key stamp answer) is_in in
       subst (λ h. IsReadAnswer (puts (events_of h)) key stamp answer) (whole may.0) (((leaves may.0 stamp may.1.0).reads key answer).0 may.1.1)
 
-  right_cuts : (stamp : ℕ) (rows : List (Version K)) → IsIn (Cut stamp rows) history → IsPage order (puts (events_of history)) stamp rows
-  right_cuts stamp rows is_in =
-      let may = behind (Cut stamp rows) is_in in
-      subst (λ h. IsPage order (puts (events_of h)) stamp rows) (whole may.0) (((leaves may.0 stamp may.1.0).cuts rows).0 may.1.1)
+  right_cuts : (stamp count : ℕ) (rows : List (Version K)) → IsIn (Cut stamp count rows) history → IsPage order (puts (events_of history)) stamp rows × (count ≡ length rows)
+  right_cuts stamp count rows is_in =
+      let may = behind (Cut stamp count rows) is_in in
+      (subst (λ h. IsPage order (puts (events_of h)) stamp rows) (whole may.0) (((leaves may.0 stamp may.1.0).cuts rows).0 may.1.1), may.1.2)
 
   pub lawful : IsLawful order setup history
   lawful Time = largest (events_of history) (follows (are_entered order setup history written))
-  lawful Lead = ahead (are_entered order setup history written)
+  lawful Drift = ahead (are_entered order setup history written)
   lawful Counter = longest (events_of history) (follows (are_entered order setup history written))
   lawful Later = higher (are_entered order setup history written)
   lawful Reads = right_reads

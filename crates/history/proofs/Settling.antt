@@ -73,12 +73,12 @@ module _ {K : Type 0} {setup : Setup} (earlier later : List (Event K)) (entered 
       back = not_later;
     }
 
--- a list without events has none
+-- where no event was entered there are no events
 no_events : {K : Type 0} (history : List (Entry K)) → ((e : Event K) → IsIn (Entered e) history → ⊥) → events_of history ≡ []
 no_events [] none = refl
 no_events (Entered e ∷ history) none = absurd (none e (inl refl))
 no_events (Read key stamp answer ∷ history) none = no_events history (λ e is_in. none e (inr is_in))
-no_events (Cut stamp rows ∷ history) none = no_events history (λ e is_in. none e (inr is_in))
+no_events (Cut stamp count rows ∷ history) none = no_events history (λ e is_in. none e (inr is_in))
 no_events (Closed ∷ history) none = no_events history (λ e is_in. none e (inr is_in))
 
 module _ {K : Type 0} (order : K → K → Ordering) (setup : Setup) (earlier later : List (Entry K)) (stamp : ℕ) (written : IsHistory order setup (earlier ++ later)) where

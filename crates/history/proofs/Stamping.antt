@@ -79,7 +79,7 @@ module _ {K : Type 0} where
 
 module _ {K : Type 0} {setup : Setup} {events : List (Event K)} (entered : AreEntered setup events) where
   is_ruled : (j : ℕ) → j < length events → IsRuled setup.lead events j
-  is_ruled j inside = is_ruled_by setup.lead events j inside (event_at events j).what refl (entered j inside).stamp
+  is_ruled j inside = is_ruled_by setup.lead events j inside (event_at events j).what refl (entered j inside).stamped
 
   -- the node's last stamp before event j is that of an event from which a step leads to j, unless it is 0.0
   last_step : (j : ℕ) → j < length events → 1 ≤ (last_stamp (take j events) (event_at events j).node).time

@@ -27,7 +27,7 @@ module _ {K : Type 0} (events : List (Event K)) where
   -- an entered receipt has the stamp of one
   receipt_of : {setup : Setup} (j number : ℕ) → AreEntered setup events → j < length events → (event_at events j).what ≡ Receipt number
       → IsReceived setup.lead (take j events) (event_at events j) number
-  receipt_of {setup} j number entered inside is = subst (IsStamped setup.lead (take j events) (event_at events j)) is (entered j inside).stamp
+  receipt_of {setup} j number entered inside is = subst (IsStamped setup.lead (take j events) (event_at events j)) is (entered j inside).stamped
 
 module _ {K : Type 0} {one other : List (Event K)} {to from : ℕ → ℕ} (moved : IsReordering one other to from) where
   -- what each event keeps on the way there it keeps on the way back

@@ -18,10 +18,12 @@ pub record Event (K : Type 0) : Type 0 where
   pub stamp : Timestamp
   pub what : What K
 
+-- what stands for an event where there is none
 abbrev pub no_event : {K : Type 0} → Event K
 no_event = record { node = 0; reading = 0; stamp = zero_stamp; what = Note }
 
--- Events stand in the order in which they were accepted, from place 0 on; event i is the one at place i. Behind the last there is none.
+-- Events stand in the order in which they were accepted, from place 0 on; event i is the one at place i. (No definition asks for a
+-- place behind the last.)
 abbrev pub event_at : {K : Type 0} → List (Event K) → ℕ → Event K
 event_at events i = slice_index_or events i no_event
 

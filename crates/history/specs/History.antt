@@ -47,28 +47,29 @@ pub record MayEnter {K : Type 0} (setup : Setup) (earlier : List (Event K)) (e :
   pub reading : 1 ≤ e.reading
   -- the bank's law: no earlier reading of the node is above this one by more than the node's backstep
   pub clock : (d : Event K) → IsIn d earlier → d.node ≡ e.node → d.reading ≤ e.reading + setup.backstep e.node
-  pub stamp : IsStamped setup.lead earlier e e.what
+  pub stamped : IsStamped setup.lead earlier e e.what
   pub counter : e.stamp.counter ≤ max_counter
 
 -- A history is what a run came to, in order: its events; the reads of a key at a stamp code, each with its answer; the cuts at a stamp
--- code, each with its rows, which are as many as it answered; and the close. Neither refused calls nor any others are in it.
+-- code, each with the number that it answered and its rows; and the close. Neither refused calls nor any others are in it.
 pub data Entry (K : Type 0) : Type 0 where
   Entered : Event K → Entry K
   Read : K → ℕ → Option (Version K) → Entry K
-  Cut : ℕ → List (Version K) → Entry K
+  Cut : ℕ → ℕ → List (Version K) → Entry K
   Closed : Entry K
 
--- the events of a history, in order
+-- the event of an entry, if it is one
 abbrev pub event_of : {K : Type 0} → Entry K → Option (Event K)
 event_of (Entered e) = Some e
 event_of (Read key stamp answer) = None
-event_of (Cut stamp rows) = None
+event_of (Cut stamp count rows) = None
 event_of Closed = None
 
+-- the events of a history, in order
 abbrev pub events_of : {K : Type 0} → List (Entry K) → List (Event K)
 events_of history = filter_map event_of history
 
--- what stands at a place of a history, from place 0 on
+-- what stands at a place of a history, from place 0 on (none behind the last is asked for)
 abbrev pub entry_at : {K : Type 0} → List (Entry K) → ℕ → Entry K
 entry_at history place = slice_index_or history place Closed
 
@@ -79,11 +80,12 @@ IsSettled setup history stamp =
 
 module _ {K : Type 0} (order : K → K → Ordering) (setup : Setup) where
   -- What may be written behind `earlier`: an event that may be entered, until the close; the answer to a read or a cut at a
-  -- settled stamp, by the puts so far.
+  -- settled stamp, by the puts so far; a close.
   abbrev pub MayBeWritten : List (Entry K) → Entry K → Type 0
   MayBeWritten earlier (Entered e) = (IsIn Closed earlier → ⊥) × MayEnter setup (events_of earlier) e
   MayBeWritten earlier (Read key stamp answer) = IsSettled setup earlier stamp × IsReadAnswer (puts (events_of earlier)) key stamp answer
-  MayBeWritten earlier (Cut stamp rows) = IsSettled setup earlier stamp × IsPage order (puts (events_of earlier)) stamp rows
+  MayBeWritten earlier (Cut stamp count rows) =
+      IsSettled setup earlier stamp × IsPage order (puts (events_of earlier)) stamp rows × (count ≡ length rows)
   MayBeWritten earlier Closed = ⊤
 
   -- a history: each of its entries may be written behind those before it

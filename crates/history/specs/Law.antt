@@ -1,5 +1,5 @@
 -- The law of whole runs, and what settled stamps are good for.
-use Rattle.std.specs.Prelude.{ℕ, ◌+◌, ◌<◌, ◌≤◌, ◌↔◌, ◌++◌, List, length, Option}
+use Rattle.std.specs.Prelude.{◌≡◌, ℕ, ◌+◌, ◌<◌, ◌≤◌, ◌↔◌, ◌++◌, List, length, Option}
 use Rattle.std.specs.declared.cmp.Ordering.{Ordering}
 use Rattle.stamps.specs.Stamp.{code_of}
 use Rattle.store.specs.Newest.{IsIn, IsReadAnswer}
@@ -9,11 +9,12 @@ use Rattle.history.specs.Events.{Event, event_at, puts}
 use Rattle.history.specs.Before.{HappenedBefore, IsLargestReading, IsLongestChain}
 use Rattle.history.specs.History.{Closed, Cut, Entry, IsHistory, IsSettled, Read, Setup, events_of}
 
--- its clauses
+-- The clauses of the law.
 pub data Clause : Type 0 where
-  Time Lead Counter Later Reads Cuts : Clause
+  Time Drift Counter Later Reads Cuts : Clause
 
 module _ {K : Type 0} (order : K → K → Ordering) (setup : Setup) (history : List (Entry K)) where
+  -- its events
   abbrev events : List (Event K)
   events = events_of history
 
@@ -21,8 +22,8 @@ module _ {K : Type 0} (order : K → K → Ordering) (setup : Setup) (history : 
   abbrev pub Holds : Clause → Type 0
   -- the time is the largest reading among the event itself and those that happened before it
   Holds Time = (j : ℕ) → j < length events → IsLargestReading events j (event_at events j).stamp.time
-  -- the time is above the event's own reading by at most the lead plus the node's backstep
-  Holds Lead = (j : ℕ) → j < length events
+  -- the drift, by which the time is above the event's own reading, is at most the lead plus the node's backstep
+  Holds Drift = (j : ℕ) → j < length events
       → (event_at events j).stamp.time ≤ (event_at events j).reading + setup.lead + setup.backstep (event_at events j).node
   -- the counter is the length of the longest chain of events that happened before it and have its time
   Holds Counter = (j : ℕ) → j < length events → IsLongestChain events j (event_at events j).stamp.counter
@@ -32,8 +33,9 @@ module _ {K : Type 0} (order : K → K → Ordering) (setup : Setup) (history : 
   -- all puts of the history, later ones too
   Holds Reads = (key : K) (stamp : ℕ) (answer : Option (Version K))
       → IsIn (Read key stamp answer) history → IsReadAnswer (puts events) key stamp answer
-  -- the rows of a cut are the page, again among all puts of the history
-  Holds Cuts = (stamp : ℕ) (rows : List (Version K)) → IsIn (Cut stamp rows) history → IsPage order (puts events) stamp rows
+  -- the rows of a cut are the page, again among all puts of the history, and as many as it answered
+  Holds Cuts = (stamp count : ℕ) (rows : List (Version K))
+      → IsIn (Cut stamp count rows) history → IsPage order (puts events) stamp rows × (count ≡ length rows)
 
   -- every clause holds
   abbrev pub IsLawful : Type 0

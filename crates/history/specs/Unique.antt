@@ -46,8 +46,8 @@ module _ {K : Type 0} (order : K → K → Ordering) where
         → IsReadAnswer (puts one) key stamp answer ↔ IsReadAnswer (puts other) key stamp answer
     pub cuts : (stamp : ℕ) (rows : List (Version K)) → IsPage order (puts one) stamp rows ↔ IsPage order (puts other) stamp rows
 
-  -- Two histories have the same stamps, answers and pages if their events are the same but for their order and, it may be, their
-  -- stamps, and each receipt is of the same send, which is so by itself where each message number is sent once.
+  -- Two histories have the same stamps, answers and pages if their events are the same in two orders. Each node's own events keep their
+  -- order; each receipt is of the same send, which is so by itself where each message number is sent once; the set-ups may differ.
   abbrev pub OneStamping : Type 0
   OneStamping = (setup other_setup : Setup) (one other : List (Entry K)) (to from : ℕ → ℕ)
       → IsHistory order setup one → IsHistory order other_setup other

@@ -1,3 +1,1 @@
-pub mod SmallHistory
-pub mod Orders
-pub mod Broken
+pub mod Entering

@@ -1,6 +1,6 @@
 // Entries that break the law.
 ghost use Rattle.std.specs.Prelude.{◌≡◌, true};
-ghost use Rattle.history_examples.specs.Examples.{EachClauseBites, TooLowBites};
+ghost use Rattle.history_examples.specs.Examples.{EachClauseBites};
 
 use keys::kind::KeyKind;
 
@@ -8,7 +8,6 @@ use keys::kind::KeyKind;
 pub fn clauses_bite<K: KeyKind>() -> bool
     ensures answer { result ≡ true }
     ensures clauses { EachClauseBites K.cmp }
-    ensures too_low { TooLowBites K.cmp }
 {
     true
 }

@@ -1,5 +1,5 @@
 // Histories.
-ghost use Rattle.std.specs.Prelude.{◌≡◌, true};
+ghost use Rattle.std.specs.Prelude.{◌≡◌, ℕ, true};
 ghost use Rattle.history_examples.specs.Examples.{ExampleIsHistory, ExampleIsReordered};
 
 use keys::kind::KeyKind;
@@ -8,7 +8,7 @@ use keys::kind::KeyKind;
 pub fn histories_exist<K: KeyKind>() -> bool
     ensures answer { result ≡ true }
     ensures example { ExampleIsHistory K.cmp }
-    ensures orders { ExampleIsReordered K.cmp }
+    ensures orders { (key : K) (number : ℕ) → ExampleIsReordered K.cmp key number }
 {
     true
 }

@@ -14,6 +14,12 @@ use Rattle.history.specs.History.{Closed, Cut, Entered, Entry, IsHistory, IsRece
 use Rattle.history.proofs.Lists.{one_more}
 use Rattle.history_examples.specs.Examples.{small_setup}
 
+infixr 30 ◌▹◌
+
+-- a proof, and the proofs for what follows
+pub ◌▹◌ : {A B : Type 0} → A → B → A × B
+a ▹ b = (a, b)
+
 module _ {K : Type 0} (order : K → K → Ordering) where
   -- the entries may be written, one behind another, behind `earlier`
   abbrev pub MayFollow : List (Entry K) → List (Entry K) → Type 0

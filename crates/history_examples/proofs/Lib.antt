@@ -1,1 +1,3 @@
 pub mod Entering
+pub mod SmallHistory
+pub mod Broken

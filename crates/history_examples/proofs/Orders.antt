@@ -1,73 +1,98 @@
 -- The same events in two orders.
-use Rattle.std.proofs.Common.{◌≡◌, ◌≢◌, ℕ, zero, suc, ◌<◌, List, [], take, refl, arith}
+use Rattle.std.proofs.Common.{◌≡◌, ◌≢◌, ℕ, zero, suc, ◌<◌, ◌⊎◌, inl, inr, ◌&&◌, Bool, true, false, if◌then◌else◌, List, nat_eq, nat_lt, take, refl, subst, arith}
 use Rattle.std.specs.declared.cmp.Ordering.{Ordering}
 use Rattle.std.proofs.Math.Dec.{lit<, lit≤}
-use Rattle.history.specs.Events.{Event, Send, event_at}
+use Rattle.std.proofs.lemmas.Bool.Decides.{nat_tests}
+use Rattle.history.specs.Events.{Event, Receipt, Send, event_at}
 use Rattle.history.specs.Before.{IsLastSend}
 use Rattle.history.specs.History.{IsHistory, events_of}
-use Rattle.history.specs.Unique.{IsReordering}
+use Rattle.history.specs.Unique.{AreSentOnce, IsReordering, KeepsMessages}
+use Rattle.history.proofs.Places.{last_send_once}
 use Rattle.history_examples.specs.Examples.{ExampleIsReordered, crossed, one_order, other_order, small_setup}
-use Rattle.history_examples.proofs.SmallHistory.{enters}
+use Rattle.history_examples.proofs.Entering.{enters, last_send, received}
 
--- what holds of each of three places
-three : (P : ℕ → Type 0) → P 0 → P 1 → P 2 → (i : ℕ) → i < 3 → P i
-three P first second third zero inside = first
-three P first second third (suc zero) inside = second
-three P first second third (suc (suc zero)) inside = third
-three P first second third (suc (suc (suc i))) inside = absurd (omega (arith, inside))
+-- what holds of each of six places
+six : (P : ℕ → Type 0) → P 0 → P 1 → P 2 → P 3 → P 4 → P 5 → (i : ℕ) → i < 6 → P i
+six P a b c d e f zero inside = a
+six P a b c d e f (suc zero) inside = b
+six P a b c d e f (suc (suc zero)) inside = c
+six P a b c d e f (suc (suc (suc zero))) inside = d
+six P a b c d e f (suc (suc (suc (suc zero)))) inside = e
+six P a b c d e f (suc (suc (suc (suc (suc zero))))) inside = f
+six P a b c d e f (suc (suc (suc (suc (suc (suc i)))))) inside = absurd (omega (arith, inside))
 
-module _ (K : Type 0) where
+module _ {K : Type 0} (key : K) (number : ℕ) where
   abbrev ones : List (Event K)
-  ones = events_of one_order
+  ones = events_of (one_order key number)
 
   abbrev others : List (Event K)
-  others = events_of other_order
+  others = events_of (other_order key number)
 
-  -- event 1 of the one order sends nothing
-  none_behind : (other : ℕ) → 0 < other → other < 2 → (event_at (events_of {K = K} (take 2 one_order)) other).what ≢ Send 1
-  none_behind zero behind inside is = absurd (omega (arith, behind))
-  none_behind (suc zero) behind inside is = cc is
-  none_behind (suc (suc other)) behind inside is = absurd (omega (arith, inside))
+  -- where one node's event stands before another, it does so in the other order
+  abbrev keeps_order : ℕ → ℕ → Bool
+  keeps_order i j = if nat_lt i j && nat_eq (event_at ones i).node (event_at ones j).node then nat_lt (crossed i) (crossed j) else true
 
-  in_order : (i j : ℕ) → i < j → j < 3 → (event_at ones i).node ≡ (event_at ones j).node → crossed i < crossed j
-  in_order i zero less inside same = absurd (omega (arith, less))
-  in_order zero (suc j) less inside same = three (λ j. (event_at ones 0).node ≡ (event_at ones j).node → 0 < j → crossed 0 < crossed j)
-      (λ same more. absurd (omega (arith, more))) (λ same more. absurd (omega (arith, same))) (λ same more. absurd (omega (arith, same))) (suc j) inside same less
-  in_order (suc zero) (suc j) less inside same = three (λ j. 1 < j → crossed 1 < crossed j)
-      (λ more. absurd (omega (arith, more))) (λ more. absurd (omega (arith, more))) (λ more. lit< tt) (suc j) inside less
-  in_order (suc (suc i)) (suc j) less inside same = absurd (omega (arith, less, inside))
+  all_keep_order : (i : ℕ) → i < 6 → (j : ℕ) → j < 6 → keeps_order i j ≡ true
+  all_keep_order = six _ (six _ refl refl refl refl refl refl) (six _ refl refl refl refl refl refl) (six _ refl refl refl refl refl refl)
+      (six _ refl refl refl refl refl refl) (six _ refl refl refl refl refl refl) (six _ refl refl refl refl refl refl)
 
   same : IsReordering ones others crossed crossed
   same = record {
-    there = three _ (lit< tt, refl) (lit< tt, refl) (lit< tt, refl);
-    back = three _ (lit< tt, refl) (lit< tt, refl) (lit< tt, refl);
-    node = three _ refl refl refl;
-    reading = three _ refl refl refl;
-    what = three _ refl refl refl;
-    in_order = in_order;
+    there = six _ (lit< tt, refl) (lit< tt, refl) (lit< tt, refl) (lit< tt, refl) (lit< tt, refl) (lit< tt, refl);
+    back = six _ (lit< tt, refl) (lit< tt, refl) (lit< tt, refl) (lit< tt, refl) (lit< tt, refl) (lit< tt, refl);
+    node = six _ refl refl refl refl refl refl;
+    reading = six _ refl refl refl refl refl refl;
+    what = six _ refl refl refl refl refl refl;
+    in_order = λ i j less inside same. grind (arith, nat_tests, less, same, all_keep_order i (omega (arith, less, inside)) j inside);
   }
 
-  -- only event 0 sends
-  only : (number i : ℕ) → i < 3 → (event_at ones i).what ≡ Send number → i ≡ 0
-  only number i inside sends = three (λ i. (event_at ones i).what ≡ Send number → i ≡ 0) (λ is. refl) (λ is. cc is) (λ is. cc is) i inside sends
+  -- places 2 and 5 of both orders receive what was last sent by events 0 and 4 of the one order
+  kept : KeepsMessages ones others crossed
+  kept n i j inside = six (λ j. (event_at ones j).what ≡ Receipt n → IsLastSend (take j ones) n i → IsLastSend (take (crossed j) others) n (crossed i))
+      (λ is. absurd (cc is)) (λ is. absurd (cc is))
+      (λ is last.
+        let first : 1 ≡ n = cc is in
+        subst (λ n. IsLastSend (take 2 ones) n i → IsLastSend (take 3 others) n (crossed i)) first (λ last.
+          rw (last_send_once last (last_send (take 2 ones) 1 0 refl refl refl)) (last_send (take 3 others) 1 1 refl refl refl)) last)
+      (λ is. absurd (cc is)) (λ is. absurd (cc is))
+      (λ is last.
+        let second : number ≡ n = cc is in
+        subst (λ n. IsLastSend (take 5 ones) n i → IsLastSend (take 5 others) n (crossed i)) second (λ last.
+          rw (last_send_once last (last_send (take 5 ones) number 4 refl refl refl)) (last_send (take 5 others) number 4 refl refl refl)) last)
+      j inside
 
-module _ {K : Type 0} (order : K → K → Ordering) where
-  one : IsHistory order small_setup one_order
-  one =
-      let last_send : IsLastSend {K = K} (events_of (take 2 one_order)) 1 0 = record { inside = lit< tt; sends = refl; none_behind = none_behind K } in
-      three _ (enters order [] _ refl refl refl refl) (enters order (take 1 one_order) _ refl refl refl refl)
-      (enters order (take 2 one_order) _ refl refl refl (record { send = 0; last_send = last_send; not_ahead = lit≤ tt; by_rule = refl }))
+  -- only events 0 and 4 send
+  only : (n i : ℕ) → i < 6 → (event_at ones i).what ≡ Send n → ((i ≡ 0) × (1 ≡ n)) ⊎ ((i ≡ 4) × (number ≡ n))
+  only n = six (λ i. (event_at ones i).what ≡ Send n → ((i ≡ 0) × (1 ≡ n)) ⊎ ((i ≡ 4) × (number ≡ n)))
+      (λ is. inl (refl, cc is)) (λ is. absurd (cc is)) (λ is. absurd (cc is)) (λ is. absurd (cc is)) (λ is. inr (refl, cc is)) (λ is. absurd (cc is))
 
-  other : IsHistory order small_setup other_order
-  other =
-      let last_send : IsLastSend {K = K} (events_of (take 2 other_order)) 1 1 = record { inside = lit< tt; sends = refl; none_behind = λ other behind inside is. absurd (omega (arith, behind, inside)) } in
-      three _ (enters order [] _ refl refl refl refl) (enters order (take 1 other_order) _ refl refl refl refl)
-      (enters order (take 2 other_order) _ refl refl refl (record { send = 1; last_send = last_send; not_ahead = lit≤ tt; by_rule = refl }))
+  once : number ≢ 1 → AreSentOnce ones
+  once other n i j inside inside′ sends sends′ = grind (arith, other, only n i inside sends, only n j inside′ sends′)
 
-  pub is_reordered : ExampleIsReordered order
-  is_reordered = record {
-    one = one;
-    other = other;
-    same = same K;
-    once = λ number i j inside inside′ sends sends′. omega (arith, only K number i inside sends, only K number j inside′ sends′);
-  }
+  module _ (order : K → K → Ordering) where
+    one : IsHistory order small_setup (one_order key number)
+    one = six _
+        (enters order (take 0 (one_order key number)) _ refl refl refl refl)
+        (enters order (take 1 (one_order key number)) _ refl refl refl refl)
+        (enters order (take 2 (one_order key number)) _ refl refl refl (received _ _ 1 0 refl refl refl refl refl))
+        (enters order (take 3 (one_order key number)) _ refl refl refl refl)
+        (enters order (take 4 (one_order key number)) _ refl refl refl refl)
+        (enters order (take 5 (one_order key number)) _ refl refl refl (received _ _ number 4 refl refl refl refl refl))
+
+    other : IsHistory order small_setup (other_order key number)
+    other = six _
+        (enters order (take 0 (other_order key number)) _ refl refl refl refl)
+        (enters order (take 1 (other_order key number)) _ refl refl refl refl)
+        (enters order (take 2 (other_order key number)) _ refl refl refl refl)
+        (enters order (take 3 (other_order key number)) _ refl refl refl (received _ _ 1 1 refl refl refl refl refl))
+        (enters order (take 4 (other_order key number)) _ refl refl refl refl)
+        (enters order (take 5 (other_order key number)) _ refl refl refl (received _ _ number 4 refl refl refl refl refl))
+
+pub is_reordered : {K : Type 0} (order : K → K → Ordering) (key : K) (number : ℕ) → ExampleIsReordered order key number
+is_reordered order key number = record {
+  one = one key number order;
+  other = other key number order;
+  same = same key number;
+  kept = kept key number;
+  once = once key number;
+}

@@ -1,7 +1,7 @@
 -- The same events in two orders.
-use Rattle.std.proofs.Common.{◌≡◌, ◌≢◌, ℕ, zero, suc, ◌<◌, ◌⊎◌, inl, inr, ◌&&◌, Bool, true, false, if◌then◌else◌, List, nat_eq, nat_lt, take, refl, subst, arith}
+use Rattle.std.proofs.Common.{◌≡◌, ◌≢◌, ℕ, zero, suc, ◌<◌, ◌⊎◌, inl, inr, ◌&&◌, Bool, true, if◌then◌else◌, List, nat_eq, nat_lt, take, refl, arith}
 use Rattle.std.specs.declared.cmp.Ordering.{Ordering}
-use Rattle.std.proofs.Math.Dec.{lit<, lit≤}
+use Rattle.std.proofs.Math.Dec.{lit<}
 use Rattle.std.proofs.lemmas.Bool.Decides.{nat_tests}
 use Rattle.history.specs.Events.{Event, Receipt, Send, event_at}
 use Rattle.history.specs.Before.{IsLastSend}
@@ -46,20 +46,17 @@ module _ {K : Type 0} (key : K) (number : ℕ) where
     in_order = λ i j less inside same. grind (arith, nat_tests, less, same, all_keep_order i (omega (arith, less, inside)) j inside);
   }
 
-  -- places 2 and 5 of both orders receive what was last sent by events 0 and 4 of the one order
+  -- place j receives message m, in both orders from event `send` of the one
+  keeps : (m send j : ℕ) → (event_at ones j).what ≡ Receipt m → IsLastSend (take j ones) m send → IsLastSend (take (crossed j) others) m (crossed send)
+      → (n i : ℕ) → (event_at ones j).what ≡ Receipt n → IsLastSend (take j ones) n i → IsLastSend (take (crossed j) others) n (crossed i)
+  keeps m send j receives here there n i is last =
+      let number_is : n ≡ m = cc (receives, is) in
+      rw (number_is, last_send_once (rw number_is at last) here) there
+
   kept : KeepsMessages ones others crossed
   kept n i j inside = six (λ j. (event_at ones j).what ≡ Receipt n → IsLastSend (take j ones) n i → IsLastSend (take (crossed j) others) n (crossed i))
-      (λ is. absurd (cc is)) (λ is. absurd (cc is))
-      (λ is last.
-        let first : 1 ≡ n = cc is in
-        subst (λ n. IsLastSend (take 2 ones) n i → IsLastSend (take 3 others) n (crossed i)) first (λ last.
-          rw (last_send_once last (last_send (take 2 ones) 1 0 refl refl refl)) (last_send (take 3 others) 1 1 refl refl refl)) last)
-      (λ is. absurd (cc is)) (λ is. absurd (cc is))
-      (λ is last.
-        let second : number ≡ n = cc is in
-        subst (λ n. IsLastSend (take 5 ones) n i → IsLastSend (take 5 others) n (crossed i)) second (λ last.
-          rw (last_send_once last (last_send (take 5 ones) number 4 refl refl refl)) (last_send (take 5 others) number 4 refl refl refl)) last)
-      j inside
+      (λ is. absurd (cc is)) (λ is. absurd (cc is)) (keeps 1 0 2 refl (last_send _ 1 0 refl refl refl) (last_send _ 1 1 refl refl refl) n i)
+      (λ is. absurd (cc is)) (λ is. absurd (cc is)) (keeps number 4 5 refl (last_send _ number 4 refl refl refl) (last_send _ number 4 refl refl refl) n i) j inside
 
   -- only events 0 and 4 send
   only : (n i : ℕ) → i < 6 → (event_at ones i).what ≡ Send n → ((i ≡ 0) × (1 ≡ n)) ⊎ ((i ≡ 4) × (number ≡ n))

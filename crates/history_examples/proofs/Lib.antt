@@ -1,3 +1,4 @@
 pub mod Entering
 pub mod SmallHistory
+pub mod Orders
 pub mod Broken

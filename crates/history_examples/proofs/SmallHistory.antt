@@ -95,27 +95,27 @@ module _ {K : Type 0} (order : K → K → Ordering) (law : IsKeyOrder order) (k
 
   is_written : IsHistory order small_setup (small_history key other)
   is_written = by_entries order (small_history key other) (
-    enters order [] _ refl refl refl refl
-    ▹ enters order (so_far 1) _ refl refl refl refl
-    ▹ enters order (so_far 2) _ refl refl refl (received _ _ 1 1 refl refl refl refl refl)
-    ▹ enters order (so_far 3) _ refl refl refl refl
-    ▹ enters order (so_far 4) _ refl refl refl refl
-    ▹ (inr settled, first_newest)
-    ▹ (inr settled, early_page, refl)
-    ▹ enters order (so_far 7) _ refl refl refl refl
-    ▹ enters order (so_far 8) _ refl refl refl refl
-    ▹ enters order (so_far 9) _ refl refl refl (received _ _ 1 5 refl refl refl refl refl)
-    ▹ enters order (so_far 10) _ refl refl refl refl
-    ▹ enters order (so_far 11) _ refl refl refl (received _ _ 2 6 refl refl refl refl refl)
-    ▹ enters order (so_far 12) _ refl refl refl refl
-    ▹ enters order (so_far 13) _ refl refl refl (received _ _ 3 10 refl refl refl refl refl)
-    ▹ enters order (so_far 14) _ refl refl refl refl
-    ▹ tt
-    ▹ (closed 0 65536003, second_newest)
-    ▹ (closed 1 0, none_at_first)
-    ▹ (closed 2 104857601, last_page, refl)
-    ▹ tt
-    ▹ tt)
+      enters order [] _ refl refl refl refl
+      ▹ enters order (so_far 1) _ refl refl refl refl
+      ▹ enters order (so_far 2) _ refl refl refl (received _ _ 1 1 refl refl refl refl refl)
+      ▹ enters order (so_far 3) _ refl refl refl refl
+      ▹ enters order (so_far 4) _ refl refl refl refl
+      ▹ (inr settled, first_newest)
+      ▹ (inr settled, early_page, refl)
+      ▹ enters order (so_far 7) _ refl refl refl refl
+      ▹ enters order (so_far 8) _ refl refl refl refl
+      ▹ enters order (so_far 9) _ refl refl refl (received _ _ 1 5 refl refl refl refl refl)
+      ▹ enters order (so_far 10) _ refl refl refl refl
+      ▹ enters order (so_far 11) _ refl refl refl (received _ _ 2 6 refl refl refl refl refl)
+      ▹ enters order (so_far 12) _ refl refl refl refl
+      ▹ enters order (so_far 13) _ refl refl refl (received _ _ 3 10 refl refl refl refl refl)
+      ▹ enters order (so_far 14) _ refl refl refl refl
+      ▹ tt
+      ▹ (closed 0 65536003, second_newest)
+      ▹ (closed 1 0, none_at_first)
+      ▹ (closed 2 104857601, last_page, refl)
+      ▹ tt
+      ▹ tt)
 
 pub is_history : {K : Type 0} (order : K → K → Ordering) → IsKeyOrder order → ExampleIsHistory order
 is_history order law key other before = is_written order law key other before

@@ -1,5 +1,5 @@
--- What is in a list.
-use Rattle.std.proofs.Common.{◌≡◌, ℕ, ◌<◌, ◌⊎◌, inl, inr, List, [], ◌∷◌, ◌++◌, get_or, length, map, refl, sym, subst, arith}
+-- What is in a list, and induction on numbers.
+use Rattle.std.proofs.Common.{◌≡◌, ℕ, zero, suc, ◌<◌, ◌⊎◌, inl, inr, List, [], ◌∷◌, ◌++◌, get_or, length, map, refl, sym, subst, arith}
 use Rattle.std.specs.Prelude.{take}
 use Rattle.std.proofs.lemmas.Bool.{cases_lt}
 use Rattle.std.proofs.lemmas.List.{get_or_append_left, get_or_push, length-append, take-append-le, take_at}
@@ -30,3 +30,15 @@ one_more May d xs x each may j inside = elim (cases_lt j (length xs)) [
       let is : length xs ≡ j = omega (arith, last, inside, length-append xs (x ∷ [])) in
       rw (take_at xs (x ∷ []) j is, get_or_push xs x d j is) may
 ]
+
+-- what holds of the numbers below n, and of n, holds of those below the next
+pub up_to_next : (P : ℕ → Type 0) (n : ℕ) → ((k : ℕ) → k < n → P k) → P n → (k : ℕ) → k < suc n → P k
+up_to_next P n below here k less = elim (cases_lt k n) [ | inl earlier ↦ below k earlier | inr at ↦ subst P (omega (arith, at, less)) here ]
+
+-- what holds of each number if it holds of all smaller ones holds of all
+all_below : (P : ℕ → Type 0) → ((j : ℕ) → ((i : ℕ) → i < j → P i) → P j) → (n k : ℕ) → k < n → P k
+all_below P each zero k less = absurd (omega (arith, less))
+all_below P each (suc n) k less = let below = all_below P each n in up_to_next P n below (each n below) k less
+
+pub by_earlier : (P : ℕ → Type 0) → ((j : ℕ) → ((i : ℕ) → i < j → P i) → P j) → (j : ℕ) → P j
+by_earlier P each j = each j (all_below P each j)

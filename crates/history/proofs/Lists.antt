@@ -21,16 +21,6 @@ of_map P f [] each y is_in = elim is_in [ ]
 of_map P f (x ∷ xs) each y (inl here) = subst P (sym here) (each x (inl refl))
 of_map P f (x ∷ xs) each y (inr there) = of_map P f xs (λ z is_in. each z (inr is_in)) y there
 
--- Where each of a list may stand behind those before it, and x behind all, this holds with x at the end too. (d is what stands nowhere.)
-pub one_more : {X : Type 0} (May : List X → X → Type 0) (d : X) (xs : List X) (x : X) → ((j : ℕ) → j < length xs → May (take j xs) (get_or xs j d)) → May xs x
-    → (j : ℕ) → j < length (xs ++ x ∷ []) → May (take j (xs ++ x ∷ [])) (get_or (xs ++ x ∷ []) j d)
-one_more May d xs x each may j inside = elim (cases_lt j (length xs)) [
-  | inl earlier ↦ rw (take-append-le j xs (x ∷ []) (omega (arith, earlier)), get_or_append_left xs (x ∷ []) d j earlier) (each j earlier)
-  | inr last ↦
-      let is : length xs ≡ j = omega (arith, last, inside, length-append xs (x ∷ [])) in
-      rw (take_at xs (x ∷ []) j is, get_or_push xs x d j is) may
-]
-
 -- what holds of the numbers below n, and of n, holds of those below the next
 pub up_to_next : (P : ℕ → Type 0) (n : ℕ) → ((k : ℕ) → k < n → P k) → P n → (k : ℕ) → k < suc n → P k
 up_to_next P n below here k less = elim (cases_lt k n) [ | inl earlier ↦ below k earlier | inr at ↦ subst P (omega (arith, at, less)) here ]

@@ -1,5 +1,5 @@
 -- What is written behind a settled stamp leaves its answers as they are.
-use Rattle.std.proofs.Common.{◌≡◌, ℕ, ◌+◌, ◌<◌, ◌≤◌, inl, inr, List, [], ◌∷◌, ◌++◌, length, Some, refl, sym, ap, ◌∙◌, subst, arith}
+use Rattle.std.proofs.Common.{◌≡◌, ℕ, ◌+◌, ◌-◌, ◌<◌, ◌≤◌, inl, inr, List, [], ◌∷◌, ◌++◌, length, Some, refl, sym, ap, ◌∙◌, subst, arith}
 use Rattle.std.specs.Prelude.{drop, take}
 use Rattle.std.specs.declared.cmp.Ordering.{Ordering}
 use Rattle.std.proofs.lemmas.Bool.{cases_lt, cases_order}
@@ -12,7 +12,7 @@ use Rattle.history.specs.Events.{Event, event_at, puts, version_of}
 use Rattle.history.specs.History.{Closed, Cut, Entered, Entry, IsHistory, IsSettled, MayBeWritten, Read, Setup, entry_at, events_of, last_stamp}
 use Rattle.history.specs.Law.{LeavesAnswers}
 use Rattle.history.proofs.Stamping.{nodes_rise, not_early}
-use Rattle.history.proofs.Entries.{are_entered, event_at-earlier, events_of-append, placed}
+use Rattle.history.proofs.Entries.{are_entered, has_entry, events_of-append, placed}
 use Rattle.history.proofs.Last.{has_last}
 use Rattle.history.proofs.Lists.{in_append}
 use Rattle.history.proofs.Puts.{of_put, put_at, put_in, puts-append}
@@ -47,8 +47,8 @@ module _ {K : Type 0} {setup : Setup} {events : List (Event K)} (entered : AreEn
         ])
   ]
 
-  -- where the last stamp of each node is at or above the stamp, no later put is
-  module _ (stamp : ℕ) (passed : (node : ℕ) → node < setup.nodes → stamp ≤ code_of (last_stamp (take n events) node)) where
+  -- where all later events are above the stamp, no later put is at or below it
+  module _ (stamp : ℕ) (above : (place : ℕ) → n ≤ place → place < length events → stamp < code_of (event_at events place).stamp) where
     not_later : (v : Version K) → v.stamp ≤ stamp → IsIn v (puts events) → IsIn v (puts (take n events))
     not_later v below is_in =
         let put = put_at events v is_in in
@@ -59,21 +59,14 @@ module _ {K : Type 0} {setup : Setup} {events : List (Event K)} (entered : AreEn
             inside = inside_take events n put.place before within;
             is = subst (λ e. version_of e e.what ≡ Some v) (sym (at_take events n put.place before)) put.is;
           })
-          | inr behind ↦
-              let above = above_last e.node stamp (passed e.node (entered put.place put.inside).node) put.place behind put.inside refl in
-              absurd (omega (arith, below, above, (of_put e e.what v put.is).stamp))
+          | inr behind ↦ absurd (omega (arith, below, above put.place behind put.inside, (of_put e e.what v put.is).stamp))
         ]
 
     same_puts : AreSameUpTo stamp (puts (take n events)) (puts events)
-    same_puts = record { there = λ v below is_in. subst (λ es. IsIn v (puts es)) (take-append-drop n events) (rw (puts-append (take n events) (drop n events)) (in_append v (puts (take n events)) _ (inl is_in))); back = not_later }
-
--- where no event was entered there are no events
-no_events : {K : Type 0} (history : List (Entry K)) → ((e : Event K) → IsIn (Entered e) history → ⊥) → events_of history ≡ []
-no_events [] none = refl
-no_events (Entered e ∷ history) none = absurd (none e (inl refl))
-no_events (Read key stamp answer ∷ history) none = no_events history (λ e is_in. none e (inr is_in))
-no_events (Cut stamp count rows ∷ history) none = no_events history (λ e is_in. none e (inr is_in))
-no_events (Closed ∷ history) none = no_events history (λ e is_in. none e (inr is_in))
+    same_puts = record {
+      there = λ v below is_in. subst (λ es. IsIn v (puts es)) (take-append-drop n events) (rw (puts-append (take n events) (drop n events)) (in_append v _ _ (inl is_in)));
+      back = not_later;
+    }
 
 module _ {K : Type 0} (order : K → K → Ordering) (setup : Setup) (earlier later : List (Entry K)) (stamp : ℕ) (written : IsHistory order setup (earlier ++ later)) where
   entered : AreEntered setup (events_of (earlier ++ later))
@@ -96,25 +89,26 @@ module _ {K : Type 0} (order : K → K → Ordering) (setup : Setup) (earlier la
   passed_first passed node is = rw are_first (passed node is)
 
   -- a closed recorder takes no event
-  none_after_close : IsIn Closed earlier → (e : Event K) → IsIn (Entered e) later → ⊥
-  none_after_close closed e is_in =
-      let at = placed (Entered e) later is_in in
-      let place = length earlier + at.0 in
-      let is : entry_at (earlier ++ later) place ≡ Entered e = get_or-append-add earlier later at.0 Closed ∙ at.2 in
-      let may = subst (MayBeWritten order setup (take place (earlier ++ later))) is (written place (omega (arith, at.1, length-append earlier later))) in
-      may.0 (subst (IsIn Closed) (sym (take-append-add earlier later at.0)) (in_append Closed earlier (take at.0 later) (inl closed)))
+  none_after_close : IsIn Closed earlier → (j : ℕ) → j < length (events_of later) → ⊥
+  none_after_close closed j inside =
+      let entry = has_entry later j inside in
+      let place = length earlier + entry.place in
+      let is : entry_at (earlier ++ later) place ≡ Entered (event_at (events_of later) j) = get_or-append-add earlier later entry.place Closed ∙ entry.is in
+      let may = subst (MayBeWritten order setup (take place (earlier ++ later))) is (written place (omega (arith, entry.inside, length-append earlier later))) in
+      may.0 (subst (IsIn Closed) (sym (take-append-add earlier later entry.place)) (in_append Closed earlier (take entry.place later) (inl closed)))
 
   stays_settled : IsSettled setup earlier stamp → IsSettled setup (earlier ++ later) stamp
   stays_settled (inl closed) = inl (in_append Closed earlier later (inl closed))
   stays_settled (inr passed) = inr (λ node is. last_rises entered first within node stamp (passed_first passed node is))
 
+  all_above : IsSettled setup earlier stamp → (place : ℕ) → first ≤ place → place < length (events_of (earlier ++ later))
+      → stamp < code_of (event_at (events_of (earlier ++ later)) place).stamp
+  unfolding first
+  all_above (inl closed) place behind inside = absurd (none_after_close closed (place - first) (omega (arith, behind, inside, ap length (events_of-append earlier later), length-append (events_of earlier) (events_of later))))
+  all_above (inr passed) place behind inside = above_last entered first within _ stamp (passed_first passed _ (entered place inside).node) place behind inside refl
+
   settled_puts : IsSettled setup earlier stamp → AreSameUpTo stamp (puts (events_of earlier)) (puts (events_of (earlier ++ later)))
-  settled_puts (inl closed) =
-      let none = no_events later (none_after_close closed) in
-      let same : events_of earlier ≡ events_of (earlier ++ later) =
-      sym (events_of-append earlier later ∙ ap (λ events. events_of earlier ++ events) none ∙ append-nil (events_of earlier)) in
-      subst (λ events. AreSameUpTo stamp (puts (events_of earlier)) (puts events)) same (record { there = λ v below is_in. is_in; back = λ v below is_in. is_in })
-  settled_puts (inr passed) = subst (λ events. AreSameUpTo stamp (puts events) (puts (events_of (earlier ++ later)))) are_first (same_puts entered first within stamp (passed_first passed))
+  settled_puts settled = subst (λ events. AreSameUpTo stamp (puts events) (puts (events_of (earlier ++ later)))) are_first (same_puts entered first within stamp (all_above settled))
 
   pub leaves_answers : IsSettled setup earlier stamp → LeavesAnswers order setup earlier later stamp
   leaves_answers settled = record {

@@ -44,9 +44,3 @@ module _ {K : Type 0} where
       let entry = has_entry history j inside in
       let may = subst (MayBeWritten order setup (take entry.place history)) entry.is (written entry.place entry.inside) in
       subst (λ earlier. MayEnter setup earlier (event_at (events_of history) j)) entry.before may.1
-
--- what is in a history stands at a place
-pub placed : {K : Type 0} (entry : Entry K) (history : List (Entry K)) → IsIn entry history → (place : ℕ) × (place < length history) × (entry_at history place ≡ entry)
-placed entry [] is_in = elim is_in [ ]
-placed entry (other ∷ history) (inl here) = (0, omega arith, sym here)
-placed entry (other ∷ history) (inr there) = let found = placed entry history there in (suc found.0, omega (arith, found.1), found.2)

@@ -7,17 +7,18 @@ use Rattle.store.specs.Newest.{IsIn, IsReadAnswer}
 use Rattle.store.specs.Page.{IsPage}
 use Rattle.store.specs.declared.version.Version.{Version}
 use Rattle.history.specs.Events.{puts}
-use Rattle.history.specs.History.{Cut, Entry, IsHistory, IsSettled, MayBeWritten, Read, Setup, events_of}
+use Rattle.history.specs.History.{Closed, Cut, Entry, IsHistory, IsSettled, MayBeWritten, Read, Setup, events_of}
 use Rattle.history.specs.Law.{Counter, Cuts, Drift, IsLawful, Later, LeavesAnswers, Reads, Time}
 use Rattle.history.proofs.Chains.{largest, longest}
 use Rattle.history.proofs.Stamping.{ahead, follows, higher}
-use Rattle.history.proofs.Entries.{are_entered, placed}
+use Rattle.history.proofs.Entries.{are_entered}
+use Rattle.history.proofs.Lists.{placed}
 use Rattle.history.proofs.Settling.{leaves_answers}
 
 module _ {K : Type 0} (order : K → K → Ordering) (setup : Setup) (history : List (Entry K)) (written : IsHistory order setup history) where
   -- an entry may be written behind those before it, and what is written behind them leaves their answers
   behind : (entry : Entry K) → IsIn entry history → (place : ℕ) × MayBeWritten order setup (take place history) entry
-  behind entry is_in = let at = placed entry history is_in in (at.0, subst (MayBeWritten order setup (take at.0 history)) at.2 (written at.0 at.1))
+  behind entry is_in = let at = placed Closed entry history is_in in (at.0, subst (MayBeWritten order setup (take at.0 history)) at.2 (written at.0 at.1))
 
   whole : (place : ℕ) → take place history ++ drop place history ≡ history
   whole place = take-append-drop place history

@@ -15,6 +15,18 @@ module _ {X : Type 0} (x : X) where
   in_append [] ys is_in = grind arith
   in_append (z ∷ xs) ys is_in = let more = in_append xs ys in grind arith
 
+-- what stands at a place of a list is in it, and what is in it stands at a place (d is what stands nowhere)
+module _ {X : Type 0} (d : X) where
+  pub at_in : (xs : List X) (place : ℕ) → place < length xs → IsIn (get_or xs place d) xs
+  at_in [] place inside = absurd (omega (arith, inside))
+  at_in (x ∷ xs) zero inside = inl refl
+  at_in (x ∷ xs) (suc place) inside = inr (at_in xs place (omega (arith, inside)))
+
+  pub placed : (x : X) (xs : List X) → IsIn x xs → (place : ℕ) × (place < length xs) × (get_or xs place d ≡ x)
+  placed x [] is_in = elim is_in [ ]
+  placed x (y ∷ xs) (inl here) = (0, omega arith, sym here)
+  placed x (y ∷ xs) (inr there) = let found = placed x xs there in (suc found.0, omega (arith, found.1), found.2)
+
 -- what holds of f x for each x in a list holds of each y in the list that f makes of it
 pub of_map : {X Y : Type 0} (P : Y → Type 0) (f : X → Y) (xs : List X) → ((x : X) → IsIn x xs → P (f x)) → (y : Y) → IsIn y (map f xs) → P y
 of_map P f [] each y is_in = elim is_in [ ]

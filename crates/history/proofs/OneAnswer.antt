@@ -18,7 +18,7 @@ use Rattle.store.proofs.PageInWords.{only_page}
 use Rattle.history.specs.Events.{Event, event_at, puts, version_of}
 use Rattle.history.proofs.Places.{NodesRise}
 use Rattle.history.proofs.Puts.{IsPutAt, of_put, put_at}
-use Rattle.history.proofs.SameVersions.{AreSameUpTo, answer_carries, page_carries, same_back}
+use Rattle.history.proofs.SameVersions.{AreSameUpTo, answers_alike, pages_alike}
 
 module _ {K : Type 0} where
   -- its stamp is below that of each of these that has its node
@@ -108,10 +108,10 @@ module _ {K : Type 0} where
     one_answer key stamp =
         let same = recorded_same order stamp (puts events) in
         let found = only_answer order total law (recorded order (puts events)) key stamp (recorded_sorted order total (puts events) (puts_rise events rises)) _ refl in
-        (newest order (recorded order (puts events)) key stamp, record { answers = answer_carries same key _ found.answers; only = λ other is. found.only other (answer_carries (same_back same) key other is) })
+        (newest order (recorded order (puts events)) key stamp, record { answers = (answers_alike same key _).0 found.answers; only = λ other is. found.only other ((answers_alike same key other).1 is) })
 
     pub one_page : (stamp : ℕ) → (rows : List (Version K)) × IsOnlyPage order (puts events) stamp rows
     one_page stamp =
         let same = recorded_same order stamp (puts events) in
         let found = only_page order total law (recorded order (puts events)) stamp (recorded_sorted order total (puts events) (puts_rise events rises)) in
-        (page order (recorded order (puts events)) stamp, record { is = page_carries order same _ found.is; only = λ other is. found.only other (page_carries order (same_back same) other is) })
+        (page order (recorded order (puts events)) stamp, record { is = (pages_alike order same _).0 found.is; only = λ other is. found.only other ((pages_alike order same other).1 is) })

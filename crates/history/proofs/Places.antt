@@ -19,11 +19,7 @@ module _ {K : Type 0} where
   NodesRise events = (i j : ℕ) → i < j → j < length events → (event_at events i).node ≡ (event_at events j).node
       → code_of (event_at events i).stamp < code_of (event_at events j).stamp
 
-  pub at_in : (events : List (Event K)) (place : ℕ) → place < length events → IsIn (event_at events place) events
-  at_in [] place inside = absurd (omega (arith, inside))
-  at_in (e ∷ events) zero inside = inl refl
-  at_in (e ∷ events) (suc place) inside = inr (at_in events place (omega (arith, inside)))
-
+  -- the first events stand where they stand among all
   pub at_take : (events : List (Event K)) (n place : ℕ) → place < n → event_at (take n events) place ≡ event_at events place
   at_take events n place before = get_or-take n events place no_event before
 

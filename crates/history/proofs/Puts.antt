@@ -44,10 +44,7 @@ module _ {K : Type 0} where
   put_at (e ∷ events) v is_in = put_at_by e events v (version_of e e.what) refl is_in (put_at events v)
 
   -- and what was put at a place is put
-  in_puts : (events : List (Event K)) (v : Version K) (place : ℕ) → place < length events → version_of (event_at events place) (event_at events place).what ≡ Some v → IsIn v (puts events)
+  pub in_puts : (events : List (Event K)) (v : Version K) (place : ℕ) → place < length events → version_of (event_at events place) (event_at events place).what ≡ Some v → IsIn v (puts events)
   in_puts [] v place inside is = absurd (omega (arith, inside))
   in_puts (e ∷ events) v zero inside is = rw is (inl refl)
   in_puts (e ∷ events) v (suc place) inside is = let more = in_puts events v place (omega (arith, inside)) is in grind arith
-
-  pub put_in : (events : List (Event K)) (v : Version K) → IsPutAt events v → IsIn v (puts events)
-  put_in events v put = in_puts events v put.place put.inside put.is

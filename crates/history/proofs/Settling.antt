@@ -12,10 +12,10 @@ use Rattle.history.specs.Events.{Event, event_at, puts, version_of}
 use Rattle.history.specs.History.{Closed, Cut, Entered, Entry, IsHistory, IsSettled, MayBeWritten, Read, Setup, entry_at, events_of, last_stamp}
 use Rattle.history.specs.Law.{LeavesAnswers}
 use Rattle.history.proofs.Stamping.{nodes_rise, not_early}
-use Rattle.history.proofs.Entries.{are_entered, has_entry, events_of-append, placed}
+use Rattle.history.proofs.Entries.{are_entered, has_entry, events_of-append}
 use Rattle.history.proofs.Last.{has_last}
 use Rattle.history.proofs.Lists.{in_append}
-use Rattle.history.proofs.Puts.{of_put, put_at, put_in, puts-append}
+use Rattle.history.proofs.Puts.{in_puts, of_put, put_at, puts-append}
 use Rattle.history.proofs.SameVersions.{AreSameUpTo, answers_alike, pages_alike}
 use Rattle.history.proofs.Places.{AreEntered, at_take, inside_take}
 
@@ -54,11 +54,7 @@ module _ {K : Type 0} {setup : Setup} {events : List (Event K)} (entered : AreEn
         let put = put_at events v is_in in
         let e = event_at events put.place in
         elim (cases_lt put.place n) [
-          | inl before ↦ put_in (take n events) v (record {
-            place = put.place;
-            inside = inside_take events n put.place before within;
-            is = subst (λ e. version_of e e.what ≡ Some v) (sym (at_take events n put.place before)) put.is;
-          })
+          | inl before ↦ in_puts (take n events) v put.place (inside_take events n put.place before within) (rw (at_take events n put.place before) put.is)
           | inr behind ↦ absurd (omega (arith, below, above put.place behind put.inside, (of_put e e.what v put.is).stamp))
         ]
 

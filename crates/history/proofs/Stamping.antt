@@ -6,12 +6,12 @@ use Rattle.std.proofs.lemmas.Bool.Decides.{nat_tests}
 use Rattle.std.proofs.lemmas.List.{length-take-le}
 use Rattle.stamps.specs.Rules.{own_stamp, receipt_stamp}
 use Rattle.stamps.specs.Stamp.{Timestamp, code_of}
-use Rattle.history.specs.Events.{Event, Note, Put, Receipt, Send, What, event_at}
+use Rattle.history.specs.Events.{Event, Note, Put, Receipt, Send, What, event_at, no_event}
 use Rattle.history.specs.Before.{ByMessage, HappenedBefore, InOneStep, IsLastSend, IsStep, OnOneNode}
 use Rattle.history.specs.History.{IsReceived, IsStamped, Setup, last_stamp}
 use Rattle.history.proofs.Last.{HasLast, IsLastOf, has_last}
-use Rattle.history.proofs.Lists.{by_earlier}
-use Rattle.history.proofs.Places.{AreEntered, NodesRise, at_in, at_take, before_less, before_to, inside_take, last_send_once, step_less}
+use Rattle.history.proofs.Lists.{at_in, by_earlier}
+use Rattle.history.proofs.Places.{AreEntered, NodesRise, at_take, before_less, before_to, inside_take, last_send_once, step_less}
 use Rattle.history.proofs.Chains.{Follows, IsLater, later, later_through}
 
 -- stamp t starts at a reading: it has this time, and the counter 0
@@ -174,7 +174,7 @@ module _ {K : Type 0} {setup : Setup} {events : List (Event K)} (entered : AreEn
         | inl same ↦ omega (arith, is.near, ap (λ k. (event_at events k).reading) same)
         | inr (inl less) ↦
             let earlier = at_take events j is.place less in
-            let kept = (entered j inside).clock (event_at (take j events) is.place) (at_in (take j events) is.place (inside_take events j is.place less (omega (arith, inside))))
+            let kept = (entered j inside).clock (event_at (take j events) is.place) (at_in no_event (take j events) is.place (inside_take events j is.place less (omega (arith, inside))))
             (ap (λ e. e.node) earlier ∙ is.of_node) in
             omega (arith, is.near, kept, ap (λ e. e.reading) earlier)
         | inr (inr more) ↦ absurd (omega (arith, more, is.not_behind))

@@ -1,11 +1,9 @@
 -- The events of a history are entered one behind another.
-use Rattle.std.proofs.Common.{◌≡◌, ℕ, zero, suc, ◌+◌, ◌<◌, ◌≤◌, inl, inr, List, [], ◌∷◌, ◌++◌, length, refl, sym, ap, ◌∙◌, subst, arith}
+use Rattle.std.proofs.Common.{◌≡◌, ℕ, zero, suc, ◌<◌, List, [], ◌∷◌, ◌++◌, length, refl, sym, ap, ◌∙◌, subst, arith}
 use Rattle.std.specs.Prelude.{take}
 use Rattle.std.specs.declared.cmp.Ordering.{Ordering}
-use Rattle.std.proofs.lemmas.List.{append-nil, get_or_append_left, take_all, take_more}
 use Rattle.std.proofs.lemmas.List.Elements.{filter_map-append}
-use Rattle.store.specs.Newest.{IsIn}
-use Rattle.history.specs.Events.{Event, event_at, no_event}
+use Rattle.history.specs.Events.{event_at}
 use Rattle.history.specs.History.{Closed, Cut, Entered, Entry, IsHistory, MayBeWritten, MayEnter, Read, Setup, entry_at, event_of, events_of}
 use Rattle.history.proofs.Places.{AreEntered}
 

@@ -1,13 +1,12 @@
 -- The last event of a node.
-use Rattle.std.proofs.Common.{◌≡◌, ℕ, zero, suc, ◌<◌, ◌≤◌, ◌⊎◌, inl, inr, Bool, true, false, List, [], ◌∷◌, ◌++◌, map, Some, Option, refl, sym, ap, ◌∙◌, subst, arith}
+use Rattle.std.proofs.Common.{◌≡◌, ℕ, zero, suc, ◌<◌, ◌≤◌, ◌⊎◌, inl, inr, Bool, true, false, List, [], ◌∷◌, ◌++◌, Some, Option, refl, sym, ap, ◌∙◌, arith}
 use Rattle.std.specs.Prelude.{◌≢◌, ◌==◌, if◌then◌else◌, length, take}
-use Rattle.std.specs.List.{filter, last_or}
-use Rattle.std.specs.Option.{unwrap_or}
+use Rattle.std.specs.List.{last_or}
 use Rattle.std.proofs.lemmas.Bool.Decides.{nat_tests}
 use Rattle.std.proofs.lemmas.List.{append-nil, map-append}
 use Rattle.std.proofs.Math.Seq.{take-suc}
 use Rattle.std.proofs.lemmas.List.Elements.{filter-append}
-use Rattle.stamps.specs.Stamp.{Timestamp, zero_stamp}
+use Rattle.stamps.specs.Stamp.{zero_stamp}
 use Rattle.history.specs.Events.{Event, event_at, no_event}
 use Rattle.history.specs.History.{last_stamp}
 use Rattle.history.proofs.Lists.{up_to_next}
@@ -40,21 +39,27 @@ module _ {K : Type 0} (events : List (Event K)) (node : ℕ) where
 
   has_last_by : (n : ℕ) (same : Bool) → ((event_at events n).node == node) ≡ same
       → last_stamp (take (suc n) events) node ≡ (if same then (event_at events n).stamp else last_stamp (take n events) node) → HasLast n → HasLast (suc n)
-  has_last_by n true is stamp found = inl (n, record {
-    before = omega arith;
-    of_node = grind (arith, nat_tests);
-    none_behind = λ k less behind. absurd (omega arith);
-    stamp = sym stamp;
-  })
+  has_last_by n true is stamp found = inl (
+    n,
+    record {
+      before = omega arith;
+      of_node = grind (arith, nat_tests);
+      none_behind = λ k less behind. absurd (omega arith);
+      stamp = sym stamp;
+    },
+  )
   has_last_by n false is stamp found =
       let differs : (event_at events n).node ≢ node = λ same. grind (arith, nat_tests) in
       elim found [
-        | inl last ↦ inl (last.0, record {
-          before = omega (arith, last.1.before);
-          of_node = last.1.of_node;
-          none_behind = up_to_next _ n last.1.none_behind (λ behind. differs);
-          stamp = last.1.stamp ∙ sym stamp;
-        })
+        | inl last ↦ inl (
+          last.0,
+          record {
+            before = omega (arith, last.1.before);
+            of_node = last.1.of_node;
+            none_behind = up_to_next _ n last.1.none_behind (λ behind. differs);
+            stamp = last.1.stamp ∙ sym stamp;
+          },
+        )
         | inr none ↦ inr (record { none = up_to_next _ n none.none differs; stamp = stamp ∙ none.stamp })
       ]
 

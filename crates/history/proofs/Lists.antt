@@ -1,8 +1,6 @@
 -- What is in a list, and induction on numbers.
 use Rattle.std.proofs.Common.{◌≡◌, ℕ, zero, suc, ◌<◌, ◌⊎◌, inl, inr, List, [], ◌∷◌, ◌++◌, get_or, length, map, refl, sym, subst, arith}
-use Rattle.std.specs.Prelude.{take}
 use Rattle.std.proofs.lemmas.Bool.{cases_lt}
-use Rattle.std.proofs.lemmas.List.{get_or_append_left, get_or_push, length-append, take-append-le, take_at}
 use Rattle.store.specs.Newest.{IsIn}
 
 -- what is in two joined lists is in one of them
@@ -35,7 +33,7 @@ of_map P f (x ∷ xs) each y (inr there) = of_map P f xs (λ z is_in. each z (in
 
 -- what holds of the numbers below n, and of n, holds of those below the next
 pub up_to_next : (P : ℕ → Type 0) (n : ℕ) → ((k : ℕ) → k < n → P k) → P n → (k : ℕ) → k < suc n → P k
-up_to_next P n below here k less = elim (cases_lt k n) [ | inl earlier ↦ below k earlier | inr at ↦ subst P (omega (arith, at, less)) here ]
+up_to_next P n below here k less = elim (cases_lt k n) [ inl earlier ↦ below k earlier | inr at ↦ subst P (omega (arith, at, less)) here ]
 
 -- what holds of each number if it holds of all smaller ones holds of all
 all_below : (P : ℕ → Type 0) → ((j : ℕ) → ((i : ℕ) → i < j → P i) → P j) → (n k : ℕ) → k < n → P k

@@ -1,10 +1,9 @@
 -- Places of events.
-use Rattle.std.proofs.Common.{◌≡◌, ℕ, zero, suc, ◌<◌, ◌≤◌, inl, inr, List, [], ◌∷◌, length, refl, arith}
+use Rattle.std.proofs.Common.{◌≡◌, ℕ, ◌<◌, ◌≤◌, inl, inr, List, length, arith}
 use Rattle.std.proofs.lemmas.Bool.{cases_order}
 use Rattle.std.proofs.lemmas.List.{get_or-take, length-take-le}
 use Rattle.std.specs.Prelude.{take}
 use Rattle.stamps.specs.Stamp.{code_of}
-use Rattle.store.specs.Newest.{IsIn}
 use Rattle.history.specs.Events.{Event, event_at, no_event}
 use Rattle.history.specs.Before.{HappenedBefore, InMoreSteps, InOneStep, IsLastSend, IsStep, ByMessage, OnOneNode}
 use Rattle.history.specs.History.{MayEnter, Setup}

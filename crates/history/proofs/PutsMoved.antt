@@ -1,6 +1,6 @@
 -- Where the events of one order are those of another, so are their puts.
-use Rattle.std.proofs.Common.{◌≡◌, ℕ, ◌<◌, List, length, sym, ap, ◌∙◌}
-use Rattle.history.specs.Events.{Event, event_at, puts, version_of}
+use Rattle.std.proofs.Common.{◌≡◌, ℕ, ◌<◌, List, length}
+use Rattle.history.specs.Events.{Event, event_at, puts}
 use Rattle.history.specs.Unique.{IsReordering}
 use Rattle.history.proofs.Puts.{in_puts, put_at}
 use Rattle.history.proofs.SameVersions.{AreSameUpTo}

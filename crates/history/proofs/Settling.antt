@@ -1,15 +1,15 @@
 -- What is written behind a settled stamp leaves its answers as they are.
-use Rattle.std.proofs.Common.{◌≡◌, ℕ, ◌+◌, ◌-◌, ◌<◌, ◌≤◌, inl, inr, List, [], ◌∷◌, ◌++◌, length, Some, refl, sym, ap, ◌∙◌, subst, arith}
+use Rattle.std.proofs.Common.{◌≡◌, ℕ, ◌+◌, ◌-◌, ◌<◌, ◌≤◌, inl, inr, List, ◌++◌, length, refl, sym, ap, ◌∙◌, subst, arith}
 use Rattle.std.specs.Prelude.{drop, take}
 use Rattle.std.specs.declared.cmp.Ordering.{Ordering}
 use Rattle.std.proofs.lemmas.Bool.{cases_lt, cases_order}
-use Rattle.std.proofs.lemmas.List.{append-nil, get_or-append-add, length-append, take-append-drop}
+use Rattle.std.proofs.lemmas.List.{get_or-append-add, length-append, take-append-drop}
 use Rattle.std.proofs.Math.Seq.{take-append-add, take-append_seam, take-length}
 use Rattle.stamps.specs.Stamp.{code_of}
 use Rattle.store.specs.Newest.{IsIn}
 use Rattle.store.specs.declared.version.Version.{Version}
-use Rattle.history.specs.Events.{Event, event_at, puts, version_of}
-use Rattle.history.specs.History.{Closed, Cut, Entered, Entry, IsHistory, IsSettled, MayBeWritten, Read, Setup, entry_at, events_of, last_stamp}
+use Rattle.history.specs.Events.{Event, event_at, puts}
+use Rattle.history.specs.History.{Closed, Entered, Entry, IsHistory, IsSettled, MayBeWritten, Setup, entry_at, events_of, last_stamp}
 use Rattle.history.specs.Law.{LeavesAnswers}
 use Rattle.history.proofs.Stamping.{nodes_rise, not_early}
 use Rattle.history.proofs.Entries.{are_entered, has_entry, events_of-append}

@@ -1,5 +1,5 @@
 -- Each entered event follows from single steps, and is ahead of its node's readings by the lead at most.
-use Rattle.std.proofs.Common.{◌≡◌, ℕ, suc, ◌+◌, ◌<◌, ◌≤◌, ◌⊎◌, inl, inr, List, length, refl, sym, ap, ◌∙◌, subst, arith}
+use Rattle.std.proofs.Common.{◌≡◌, ℕ, suc, ◌+◌, ◌<◌, ◌≤◌, ◌⊎◌, inl, inr, List, length, refl, sym, ap, ◌∙◌, arith}
 use Rattle.std.specs.Prelude.{take}
 use Rattle.std.proofs.lemmas.Bool.{cases_order}
 use Rattle.std.proofs.lemmas.Bool.Decides.{nat_tests}
@@ -11,7 +11,7 @@ use Rattle.history.specs.Before.{ByMessage, HappenedBefore, InOneStep, IsLastSen
 use Rattle.history.specs.History.{IsReceived, IsStamped, Setup, last_stamp}
 use Rattle.history.proofs.Last.{HasLast, IsLastOf, has_last}
 use Rattle.history.proofs.Lists.{at_in, by_earlier}
-use Rattle.history.proofs.Places.{AreEntered, NodesRise, at_take, before_less, before_to, inside_take, last_send_once, step_less}
+use Rattle.history.proofs.Places.{AreEntered, NodesRise, at_take, before_less, before_to, inside_take, last_send_once}
 use Rattle.history.proofs.Chains.{Follows, IsLater, later, later_through}
 
 -- stamp t starts at a reading: it has this time, and the counter 0
@@ -60,7 +60,7 @@ module _ {K : Type 0} (lead : ℕ) (events : List (Event K)) (j : ℕ) where
     not_early = rw is (omega arith);
     after_last = rw is (after_own (its_last events j) (event_at events j).reading);
     after_sent = λ number i receipt last. absurd (no_receipt number receipt);
-    from = elim (own_from (its_last events j) (event_at events j).reading) [ | inl start ↦ inl (rw is start) | inr last ↦ inr (inl (rw is last)) ];
+    from = elim (own_from (its_last events j) (event_at events j).reading) [ inl start ↦ inl (rw is start) | inr last ↦ inr (inl (rw is last)) ];
   }
 
   receipt_is_ruled : (number : ℕ) → j < length events → (event_at events j).what ≡ Receipt number → IsReceived lead (take j events) (event_at events j) number → IsRuled
@@ -137,8 +137,8 @@ module _ {K : Type 0} {setup : Setup} {events : List (Event K)} (entered : AreEn
   follows j inside = record {
     later = λ i step. later_step i j step;
     own = not_early j inside;
-    time = elim (from_step j inside) [ | inl start ↦ inl start.0 | inr from ↦ inr (from.0, from.1, from.2.0) ];
-    counter = elim (from_step j inside) [ | inl start ↦ inl start.1 | inr from ↦ inr (from.0, from.1, from.2.0, from.2.1) ];
+    time = elim (from_step j inside) [ inl start ↦ inl start.0 | inr from ↦ inr (from.0, from.1, from.2.0) ];
+    counter = elim (from_step j inside) [ inl start ↦ inl start.1 | inr from ↦ inr (from.0, from.1, from.2.0, from.2.1) ];
   }
 
   -- The time of event j is above some reading of its node, event j's or an earlier one's, by the lead at most.

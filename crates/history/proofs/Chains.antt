@@ -6,7 +6,7 @@ use Rattle.stamps.specs.Stamp.{Timestamp}
 use Rattle.store.specs.Newest.{IsIn}
 use Rattle.history.specs.Events.{Event, event_at}
 use Rattle.history.specs.Before.{HappenedBefore, InMoreSteps, InOneStep, IsChain, IsChainTo, IsLargestReading, IsLongestChain, IsStep, IsUpTo}
-use Rattle.history.proofs.Lists.{by_earlier, from_append}
+use Rattle.history.proofs.Lists.{by_earlier, each_push}
 use Rattle.history.proofs.Places.{before_less, step_less, step_to}
 
 -- t has a larger time than s, or the same and a larger counter
@@ -34,14 +34,6 @@ pub record Follows {K : Type 0} (events : List (Event K)) (j : ℕ) : Type 0 whe
       ((event_at events j).stamp.counter ≡ 0)
       ⊎ ((i : ℕ) × IsStep events i j × ((event_at events i).stamp.time ≡ (event_at events j).stamp.time)
       × ((event_at events j).stamp.counter ≡ suc (event_at events i).stamp.counter))
-
--- what is in a list with one more at its end
-in_end : {X : Type 0} (x y : X) (xs : List X) → IsIn x (xs ++ y ∷ []) → IsIn x xs ⊎ (x ≡ y)
-in_end x y xs is_in = elim (from_append x xs (y ∷ []) is_in) [
-  | inl first ↦ inl first
-  | inr (inl last) ↦ inr last
-  | inr (inr none) ↦ elim none [ ]
-]
 
 module _ {K : Type 0} (events : List (Event K)) where
   -- a chain goes on with an event that happened after all of it
@@ -90,33 +82,28 @@ module _ {K : Type 0} (events : List (Event K)) where
             found.0 ++ from.0 ∷ [],
             record {
               is_chain = chain_end from.0 found.0 found.1.is_chain found.1.before;
-              before = λ i there. elim (in_end i from.0 found.0 there) [
-                | inl more ↦ InMoreSteps (found.1.before i more) from.1
-                | inr last ↦ InOneStep (subst (λ k. IsStep events k j) (sym last) from.1)
-              ];
-              of_its_time = λ i there. elim (in_end i from.0 found.0 there) [
-                | inl more ↦ found.1.of_its_time i more ∙ from.2
-                | inr last ↦ ap (λ k. (event_at events k).stamp.time) last ∙ from.2
-              ];
+              before = each_push _ from.0 found.0 (λ i there. InMoreSteps (found.1.before i there) from.1) (InOneStep from.1);
+              of_its_time = each_push _ from.0 found.0 (λ i there. found.1.of_its_time i there ∙ from.2) from.2;
             },
             omega (arith, length_push found.0 from.0, found.2, from.3),
           )
     ])
 
     -- counters rise along a chain
-    counters_rise : (j i : ℕ) (chain : List ℕ) → IsChain events (i ∷ chain)
-        → ((k : ℕ) → IsIn k (i ∷ chain) → HappenedBefore events k j)
-        → ((k : ℕ) → IsIn k (i ∷ chain) → (event_at events k).stamp.time ≡ (event_at events j).stamp.time)
-        → (event_at events i).stamp.counter + length (i ∷ chain) ≤ (event_at events j).stamp.counter
-    counters_rise j i [] is before same = omega (arith, (later (before i (inl refl))).counter (same i (inl refl)))
-    counters_rise j i (k ∷ chain) is before same =
-        let rest = counters_rise j k chain is.1 (λ l there. before l (inr there)) (λ l there. same l (inr there)) in
-        let step = (later is.0).counter (same i (inl refl) ∙ sym (same k (inr (inl refl)))) in
+    counters_rise : (j i : ℕ) (chain : List ℕ) → IsChainTo events j (i ∷ chain) → (event_at events i).stamp.counter + length (i ∷ chain) ≤ (event_at events j).stamp.counter
+    counters_rise j i [] is = omega (arith, (later (is.before i (inl refl))).counter (is.of_its_time i (inl refl)))
+    counters_rise j i (k ∷ chain) is =
+        let rest = counters_rise j k chain (record {
+          is_chain = is.is_chain.1;
+          before = λ l there. is.before l (inr there);
+          of_its_time = λ l there. is.of_its_time l (inr there);
+        }) in
+        let step = (later is.is_chain.0).counter (is.of_its_time i (inl refl) ∙ sym (is.of_its_time k (inr (inl refl)))) in
         omega (arith, rest, step)
 
     none_longer : (j : ℕ) (chain : List ℕ) → IsChainTo events j chain → length chain ≤ (event_at events j).stamp.counter
     none_longer j [] is = omega arith
-    none_longer j (i ∷ chain) is = omega (arith, counters_rise j i chain is.is_chain is.before is.of_its_time)
+    none_longer j (i ∷ chain) is = omega (arith, counters_rise j i chain is)
 
     pub longest : (j : ℕ) → j < length events → IsLongestChain events j (event_at events j).stamp.counter
     longest j inside = record { one = has_chain j inside; none_longer = none_longer j }

@@ -3,15 +3,17 @@ use Rattle.std.proofs.Common.{◌≡◌, ℕ, zero, suc, ◌<◌, ◌⊎◌, inl
 use Rattle.std.proofs.lemmas.Bool.{cases_lt}
 use Rattle.store.specs.Newest.{IsIn}
 
--- what is in two joined lists is in one of them
-module _ {X : Type 0} (x : X) where
-  pub from_append : (xs ys : List X) → IsIn x (xs ++ ys) → IsIn x xs ⊎ IsIn x ys
-  from_append [] ys is_in = inr is_in
-  from_append (z ∷ xs) ys is_in = let more = from_append xs ys in grind arith
+-- what is in one of two lists is in both joined
+pub in_append : {X : Type 0} (x : X) (xs ys : List X) → IsIn x xs ⊎ IsIn x ys → IsIn x (xs ++ ys)
+in_append x [] ys is_in = grind arith
+in_append x (z ∷ xs) ys is_in = let more = in_append x xs ys in grind arith
 
-  pub in_append : (xs ys : List X) → IsIn x xs ⊎ IsIn x ys → IsIn x (xs ++ ys)
-  in_append [] ys is_in = grind arith
-  in_append (z ∷ xs) ys is_in = let more = in_append xs ys in grind arith
+-- what holds of each in a list, and of y, holds of each in the list with y at its end
+pub each_push : {X : Type 0} (P : X → Type 0) (y : X) (xs : List X) → ((x : X) → IsIn x xs → P x) → P y → (x : X) → IsIn x (xs ++ y ∷ []) → P x
+each_push P y [] each here x (inl is) = subst P (sym is) here
+each_push P y [] each here x (inr there) = elim there [ ]
+each_push P y (z ∷ xs) each here x (inl is) = each x (inl is)
+each_push P y (z ∷ xs) each here x (inr there) = each_push P y xs (λ w is_in. each w (inr is_in)) here x there
 
 -- what stands at a place of a list is in it, and what is in it stands at a place (d is what stands nowhere)
 module _ {X : Type 0} (d : X) where

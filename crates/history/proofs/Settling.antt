@@ -68,21 +68,18 @@ module _ {K : Type 0} (order : K → K → Ordering) (setup : Setup) (earlier la
   entered : AreEntered setup (events_of (earlier ++ later))
   entered = are_entered order setup (earlier ++ later) written
 
+  lengths : length (events_of (earlier ++ later)) ≡ length (events_of earlier) + length (events_of later)
+  lengths = ap length (events_of-append earlier later) ∙ length-append (events_of earlier) (events_of later)
+
   -- the earlier events are the first
-  first : ℕ
+  abbrev first : ℕ
   first = length (events_of earlier)
 
-  are_first : take first (events_of (earlier ++ later)) ≡ events_of earlier
-  unfolding first
-  are_first = ap (take (length (events_of earlier))) (events_of-append earlier later) ∙ take-append_seam (events_of earlier) (events_of later)
-
   within : first ≤ length (events_of (earlier ++ later))
-  unfolding first
-  within = omega (arith, ap length (events_of-append earlier later), length-append (events_of earlier) (events_of later))
+  within = omega (arith, lengths)
 
-  passed_first : ((node : ℕ) → node < setup.nodes → stamp ≤ code_of (last_stamp (events_of earlier) node))
-      → (node : ℕ) → node < setup.nodes → stamp ≤ code_of (last_stamp (take first (events_of (earlier ++ later))) node)
-  passed_first passed node is = rw are_first (passed node is)
+  are_first : take first (events_of (earlier ++ later)) ≡ events_of earlier
+  are_first = ap (take first) (events_of-append earlier later) ∙ take-append_seam (events_of earlier) (events_of later)
 
   -- a closed recorder takes no event
   none_after_close : IsIn Closed earlier → (j : ℕ) → j < length (events_of later) → ⊥
@@ -95,16 +92,16 @@ module _ {K : Type 0} (order : K → K → Ordering) (setup : Setup) (earlier la
 
   stays_settled : IsSettled setup earlier stamp → IsSettled setup (earlier ++ later) stamp
   stays_settled (inl closed) = inl (in_append Closed earlier later (inl closed))
-  stays_settled (inr passed) = inr (λ node is. last_rises entered first within node stamp (passed_first passed node is))
+  stays_settled (inr passed) = inr (λ node is. last_rises entered first within node stamp (rw are_first (passed node is)))
 
   all_above : IsSettled setup earlier stamp → (place : ℕ) → first ≤ place → place < length (events_of (earlier ++ later))
       → stamp < code_of (event_at (events_of (earlier ++ later)) place).stamp
-  unfolding first
-  all_above (inl closed) place behind inside = absurd (none_after_close closed (place - first) (omega (arith, behind, inside, ap length (events_of-append earlier later), length-append (events_of earlier) (events_of later))))
-  all_above (inr passed) place behind inside = above_last entered first within _ stamp (passed_first passed _ (entered place inside).node) place behind inside refl
+  all_above (inl closed) place behind inside = absurd (none_after_close closed (place - first) (omega (arith, behind, inside, lengths)))
+  all_above (inr passed) place behind inside = above_last entered first within _ stamp (rw are_first (passed _ (entered place inside).node)) place behind inside refl
 
-  settled_puts : IsSettled setup earlier stamp → AreSameUpTo stamp (puts (events_of earlier)) (puts (events_of (earlier ++ later)))
-  settled_puts settled = subst (λ events. AreSameUpTo stamp (puts events) (puts (events_of (earlier ++ later)))) are_first (same_puts entered first within stamp (all_above settled))
+  pub settled_puts : IsSettled setup earlier stamp → AreSameUpTo stamp (puts (events_of earlier)) (puts (events_of (earlier ++ later)))
+  settled_puts settled = subst (λ events. AreSameUpTo stamp (puts events) (puts (events_of (earlier ++ later)))) are_first
+      (same_puts entered first within stamp (all_above settled))
 
   pub leaves_answers : IsSettled setup earlier stamp → LeavesAnswers order setup earlier later stamp
   leaves_answers settled = record {

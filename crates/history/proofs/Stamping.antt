@@ -48,10 +48,10 @@ module _ {K : Type 0} (lead : ℕ) (events : List (Event K)) (j : ℕ) where
   -- Event j's stamp is not before its reading, and later than its node's last and its message's; it starts at the reading, or goes on
   -- from the last, or from that of a message which is ahead by the lead at most.
   record IsRuled : Type 0 where
-    pub not_early : (event_at events j).reading ≤ (event_at events j).stamp.time
-    pub after_last : IsLater (its_last events j) (event_at events j).stamp
-    pub after_sent : (number i : ℕ) → (event_at events j).what ≡ Receipt number → IsLastSend (take j events) number i → IsLater (event_at events i).stamp (event_at events j).stamp
-    pub from : StartsAt (event_at events j).reading (event_at events j).stamp
+    not_early : (event_at events j).reading ≤ (event_at events j).stamp.time
+    after_last : IsLater (its_last events j) (event_at events j).stamp
+    after_sent : (number i : ℕ) → (event_at events j).what ≡ Receipt number → IsLastSend (take j events) number i → IsLater (event_at events i).stamp (event_at events j).stamp
+    from : StartsAt (event_at events j).reading (event_at events j).stamp
         ⊎ (GoesOn (its_last events j) (event_at events j).stamp
         ⊎ ((i : ℕ) × IsStep events i j × GoesOn (event_at events i).stamp (event_at events j).stamp × ((event_at events j).stamp.time ≤ (event_at events j).reading + lead)))
 
@@ -143,10 +143,10 @@ module _ {K : Type 0} {setup : Setup} {events : List (Event K)} (entered : AreEn
 
   -- The time of event j is above some reading of its node, event j's or an earlier one's, by the lead at most.
   record IsNear (j : ℕ) : Type 0 where
-    pub place : ℕ
-    pub not_behind : place ≤ j
-    pub of_node : (event_at events place).node ≡ (event_at events j).node
-    pub near : (event_at events j).stamp.time ≤ (event_at events place).reading + setup.lead
+    place : ℕ
+    not_behind : place ≤ j
+    of_node : (event_at events place).node ≡ (event_at events j).node
+    near : (event_at events j).stamp.time ≤ (event_at events place).reading + setup.lead
 
   near_own : (j : ℕ) → (event_at events j).stamp.time ≤ (event_at events j).reading + setup.lead → IsNear j
   near_own j near = record { place = j; not_behind = omega arith; of_node = refl; near = near }

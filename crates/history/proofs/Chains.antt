@@ -43,17 +43,19 @@ module _ {K : Type 0} (events : List (Event K)) where
   chain_end i (j ∷ k ∷ chain) is all = (is.0, chain_end i (k ∷ chain) is.1 (λ l there. all l (inr there)))
 
   module _ (follows : (j : ℕ) → j < length events → Follows events j) where
+    -- what happened before has an earlier stamp
     pub later : {i j : ℕ} → HappenedBefore events i j → IsLater (event_at events i).stamp (event_at events j).stamp
     later {i} {j} (InOneStep step) = (follows j (step_to step)).later i step
     later {i} {j} (InMoreSteps {j = k} before step) = later_through (later before) ((follows j (step_to step)).later k step)
 
+    -- the time is at least each reading up to it
     none_larger : (j : ℕ) → j < length events → (i : ℕ) → IsUpTo events i j → (event_at events i).reading ≤ (event_at events j).stamp.time
     none_larger j inside i (inl same) = rw same (follows j inside).own
     none_larger j inside i (inr before) =
         let less = before_less before in
         omega (arith, (later before).time, (follows i (omega (arith, less, inside))).own)
 
-    -- the time is the reading of one of them
+    -- and is one of them
     has_reading : (j : ℕ) → j < length events → (i : ℕ) × IsUpTo events i j × ((event_at events i).reading ≡ (event_at events j).stamp.time)
     has_reading = by_earlier _ (λ j earlier inside. elim (follows j inside).time [
       | inl own ↦ (j, inl refl, own)
@@ -72,7 +74,7 @@ module _ {K : Type 0} (events : List (Event K)) where
     pub largest : (j : ℕ) → j < length events → IsLargestReading events j (event_at events j).stamp.time
     largest j inside = record { one = has_reading j inside; none_larger = none_larger j inside }
 
-    -- a chain is as long as the counter
+    -- some chain is as long as the counter
     has_chain : (j : ℕ) → j < length events → (chain : List ℕ) × IsChainTo events j chain × (length chain ≡ (event_at events j).stamp.counter)
     has_chain = by_earlier _ (λ j earlier inside. elim (follows j inside).counter [
       | inl none ↦ ([], record { is_chain = tt; before = λ i there. elim there [ ]; of_its_time = λ i there. elim there [ ] }, sym none)
@@ -89,7 +91,7 @@ module _ {K : Type 0} (events : List (Event K)) where
           )
     ])
 
-    -- counters rise along a chain
+    -- counters rise along a chain,
     counters_rise : (j i : ℕ) (chain : List ℕ) → IsChainTo events j (i ∷ chain) → (event_at events i).stamp.counter + length (i ∷ chain) ≤ (event_at events j).stamp.counter
     counters_rise j i [] is = omega (arith, (later (is.before i (inl refl))).counter (is.of_its_time i (inl refl)))
     counters_rise j i (k ∷ chain) is =
@@ -101,6 +103,7 @@ module _ {K : Type 0} (events : List (Event K)) where
         let step = (later is.is_chain.0).counter (is.of_its_time i (inl refl) ∙ sym (is.of_its_time k (inr (inl refl)))) in
         omega (arith, rest, step)
 
+    -- so that none is longer than the counter
     none_longer : (j : ℕ) (chain : List ℕ) → IsChainTo events j chain → length chain ≤ (event_at events j).stamp.counter
     none_longer j [] is = omega arith
     none_longer j (i ∷ chain) is = omega (arith, counters_rise j i chain is)

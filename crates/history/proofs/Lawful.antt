@@ -13,10 +13,14 @@ use Rattle.history.proofs.Chains.{largest, longest}
 use Rattle.history.proofs.Stamping.{ahead, follows, higher}
 use Rattle.history.proofs.Entries.{are_entered}
 use Rattle.history.proofs.Lists.{placed}
+use Rattle.history.proofs.Places.{AreEntered}
 use Rattle.history.proofs.Settling.{settled_puts}
 use Rattle.history.proofs.SameVersions.{AreSameUpTo, answers_alike, pages_alike}
 
 module _ {K : Type 0} (order : K → K → Ordering) (setup : Setup) (history : List (Entry K)) (written : IsHistory order setup history) where
+  entered : AreEntered setup (events_of history)
+  entered = are_entered order setup history written
+
   -- an entry may be written behind those before it
   behind : (entry : Entry K) → IsIn entry history → (place : ℕ) × MayBeWritten order setup (take place history) entry
   behind entry is_in = let at = placed Closed entry history is_in in (at.0, subst (MayBeWritten order setup (take at.0 history)) at.2 (written at.0 at.1))
@@ -37,9 +41,9 @@ module _ {K : Type 0} (order : K → K → Ordering) (setup : Setup) (history : 
       ((pages_alike order (all_puts may.0 stamp may.1.0) rows).0 may.1.1, may.1.2)
 
   pub lawful : IsLawful order setup history
-  lawful Time = largest (events_of history) (follows (are_entered order setup history written))
-  lawful Drift = ahead (are_entered order setup history written)
-  lawful Counter = longest (events_of history) (follows (are_entered order setup history written))
-  lawful Later = higher (are_entered order setup history written)
+  lawful Time = largest (events_of history) (follows entered)
+  lawful Drift = ahead entered
+  lawful Counter = longest (events_of history) (follows entered)
+  lawful Later = higher entered
   lawful Reads = right_reads
   lawful Cuts = right_cuts

@@ -37,7 +37,7 @@ of_map P f (x ∷ xs) each y (inr there) = of_map P f xs (λ z is_in. each z (in
 pub up_to_next : (P : ℕ → Type 0) (n : ℕ) → ((k : ℕ) → k < n → P k) → P n → (k : ℕ) → k < suc n → P k
 up_to_next P n below here k less = elim (cases_lt k n) [ inl earlier ↦ below k earlier | inr at ↦ subst P (omega (arith, at, less)) here ]
 
--- what holds of each number if it holds of all smaller ones holds of all
+-- what holds of each number if it holds of all smaller ones holds of all: of those below any n, and so of each
 all_below : (P : ℕ → Type 0) → ((j : ℕ) → ((i : ℕ) → i < j → P i) → P j) → (n k : ℕ) → k < n → P k
 all_below P each zero k less = absurd (omega (arith, less))
 all_below P each (suc n) k less = let below = all_below P each n in up_to_next P n below (each n below) k less

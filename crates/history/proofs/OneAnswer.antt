@@ -88,30 +88,38 @@ module _ {K : Type 0} where
       unfolding IsStrictlySortedBy
       recorded_sorted vs rising = onto_sorted vs [] tt rising (λ w is_in. elim is_in [ ])
 
-  earlier_than_put : (e : Event K) (events : List (Event K)) (v w : Version K) → NodesRise (e ∷ events) → version_of e e.what ≡ Some v → IsPutAt events w → w.node ≡ v.node → v.stamp < w.stamp
+  -- where the stamps of each node rise along events, they rise along what these put
+  earlier_than_put : (e : Event K) (events : List (Event K)) (v w : Version K) → NodesRise (e ∷ events)
+      → version_of e e.what ≡ Some v → IsPutAt events w → w.node ≡ v.node → v.stamp < w.stamp
   earlier_than_put e events v w rises is put same =
       let first = of_put e e.what v is in
       let second = of_put (event_at events put.place) (event_at events put.place).what w put.is in
       let rise = rises 0 (suc put.place) (omega arith) (omega (arith, put.inside)) (sym first.node ∙ sym same ∙ second.node) in
       omega (arith, first.stamp, second.stamp, rise)
 
-  rise_by : (e : Event K) (events : List (Event K)) (found : Option (Version K)) → version_of e e.what ≡ found → NodesRise (e ∷ events) → AreRising (puts events) → AreRising (cons_option found (puts events))
+  rise_by : (e : Event K) (events : List (Event K)) (found : Option (Version K)) → version_of e e.what ≡ found
+      → NodesRise (e ∷ events) → AreRising (puts events) → AreRising (cons_option found (puts events))
   rise_by e events None none rises more = more
   rise_by e events (Some v) some rises more = (λ w is_in. earlier_than_put e events v w rises some (put_at events w is_in), more)
 
   pub puts_rise : (events : List (Event K)) → NodesRise events → AreRising (puts events)
   puts_rise [] rises = tt
-  puts_rise (e ∷ events) rises = rise_by e events (version_of e e.what) refl rises (puts_rise events (λ i j before inside. rises (suc i) (suc j) (omega (arith, before)) (omega (arith, inside))))
+  puts_rise (e ∷ events) rises =
+      let more = puts_rise events (λ i j before inside. rises (suc i) (suc j) (omega (arith, before)) (omega (arith, inside))) in
+      rise_by e events (version_of e e.what) refl rises more
 
   module _ (order : K → K → Ordering) (total : IsTotalOrder order) (law : IsKeyOrder order) (events : List (Event K)) (rises : NodesRise events) where
+    sorted : IsSorted order (recorded order (puts events))
+    sorted = recorded_sorted order total (puts events) (puts_rise events rises)
+
     pub one_answer : (key : K) (stamp : ℕ) → (answer : Option (Version K)) × IsOnlyAnswer (puts events) key stamp answer
     one_answer key stamp =
-        let same = recorded_same order stamp (puts events) in
-        let found = only_answer order total law (recorded order (puts events)) key stamp (recorded_sorted order total (puts events) (puts_rise events rises)) _ refl in
-        (newest order (recorded order (puts events)) key stamp, record { answers = (answers_alike same key _).0 found.answers; only = λ other is. found.only other ((answers_alike same key other).1 is) })
+        let alike = answers_alike (recorded_same order stamp (puts events)) key in
+        let found = only_answer order total law (recorded order (puts events)) key stamp sorted _ refl in
+        (newest order (recorded order (puts events)) key stamp, record { answers = (alike _).0 found.answers; only = λ other is. found.only other ((alike other).1 is) })
 
     pub one_page : (stamp : ℕ) → (rows : List (Version K)) × IsOnlyPage order (puts events) stamp rows
     one_page stamp =
-        let same = recorded_same order stamp (puts events) in
-        let found = only_page order total law (recorded order (puts events)) stamp (recorded_sorted order total (puts events) (puts_rise events rises)) in
-        (page order (recorded order (puts events)) stamp, record { is = (pages_alike order same _).0 found.is; only = λ other is. found.only other ((pages_alike order same other).1 is) })
+        let alike = pages_alike order (recorded_same order stamp (puts events)) in
+        let found = only_page order total law (recorded order (puts events)) stamp sorted in
+        (page order (recorded order (puts events)) stamp, record { is = (alike _).0 found.is; only = λ other is. found.only other ((alike other).1 is) })

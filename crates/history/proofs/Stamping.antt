@@ -1,17 +1,17 @@
 -- Each entered event follows from single steps, and is ahead of its node's readings by the lead at most.
 use Rattle.std.proofs.Common.{◌≡◌, ℕ, suc, ◌+◌, ◌<◌, ◌≤◌, ◌⊎◌, inl, inr, List, length, refl, sym, ap, ◌∙◌, arith}
 use Rattle.std.specs.Prelude.{take}
-use Rattle.std.proofs.lemmas.Bool.{cases_order}
+use Rattle.std.proofs.lemmas.Bool.{cases_lt, cases_order}
 use Rattle.std.proofs.lemmas.Bool.Decides.{nat_tests}
 use Rattle.std.proofs.lemmas.List.{length-take-le}
 use Rattle.stamps.specs.Rules.{own_stamp, receipt_stamp}
 use Rattle.stamps.specs.Stamp.{Timestamp, code_of}
-use Rattle.history.specs.Events.{Event, Note, Put, Receipt, Send, What, event_at, no_event}
+use Rattle.history.specs.Events.{Event, Note, Put, Receipt, Send, What, event_at}
 use Rattle.history.specs.Before.{ByMessage, HappenedBefore, InOneStep, IsLastSend, IsStep, OnOneNode}
 use Rattle.history.specs.History.{IsReceived, IsStamped, Setup, last_stamp}
 use Rattle.history.proofs.Last.{HasLast, IsLastOf, has_last}
-use Rattle.history.proofs.Lists.{at_in, by_earlier}
-use Rattle.history.proofs.Places.{AreEntered, NodesRise, at_take, before_less, before_to, inside_take, last_send_once}
+use Rattle.history.proofs.Lists.{by_earlier}
+use Rattle.history.proofs.Places.{AreEntered, NodesRise, at_take, before_less, before_to, in_take, last_send_once}
 use Rattle.history.proofs.Chains.{Follows, IsLater, later, later_through}
 
 -- stamp t starts at a reading: it has this time, and the counter 0
@@ -22,7 +22,7 @@ StartsAt reading t = (reading ≡ t.time) × (t.counter ≡ 0)
 abbrev GoesOn : Timestamp → Timestamp → Type 0
 GoesOn s t = (s.time ≡ t.time) × (t.counter ≡ suc s.counter)
 
--- what the rules say
+-- a stamp is later than those that its rule names, and starts at the reading or goes on from one of them
 module _ (last : Timestamp) (reading : ℕ) where
   after_own : IsLater last (own_stamp last reading)
   after_own = record { time = omega arith; counter = λ same. grind (arith, nat_tests) }
@@ -92,6 +92,7 @@ module _ {K : Type 0} {setup : Setup} {events : List (Event K)} (entered : AreEn
   is_ruled : (j : ℕ) → j < length events → IsRuled setup.lead events j
   is_ruled j inside = is_ruled_by setup.lead events j inside (event_at events j).what refl (entered j inside).stamped
 
+  -- no time is before its reading
   pub not_early : (j : ℕ) → j < length events → (event_at events j).reading ≤ (event_at events j).stamp.time
   not_early j inside = (is_ruled j inside).not_early
 
@@ -99,9 +100,9 @@ module _ {K : Type 0} {setup : Setup} {events : List (Event K)} (entered : AreEn
   last_before : (j : ℕ) → j < length events → HasLast events (event_at events j).node j
   last_before j inside = has_last events (event_at events j).node j (omega (arith, inside))
 
-  -- the stamps of one node rise
-  rises_on_node : (j : ℕ) → j < length events → (i : ℕ) → i < j → (event_at events i).node ≡ (event_at events j).node → IsLater (event_at events i).stamp (event_at events j).stamp
-  rises_on_node = by_earlier _ (λ j earlier inside i less same. elim (last_before j inside) [
+  -- each stamp is later than all those of its node before it
+  later_on_node : (j : ℕ) → j < length events → (i : ℕ) → i < j → (event_at events i).node ≡ (event_at events j).node → IsLater (event_at events i).stamp (event_at events j).stamp
+  later_on_node = by_earlier _ (λ j earlier inside i less same. elim (last_before j inside) [
     | inl last ↦
         let step : IsLater (event_at events last.0).stamp (event_at events j).stamp = rw last.1.stamp (is_ruled j inside).after_last in
         elim (cases_order i last.0) [
@@ -112,14 +113,15 @@ module _ {K : Type 0} {setup : Setup} {events : List (Event K)} (entered : AreEn
     | inr none ↦ absurd (none.none i less same)
   ])
 
+  -- and than those from which one step leads to it
   later_step : (i j : ℕ) → IsStep events i j → IsLater (event_at events i).stamp (event_at events j).stamp
-  later_step i j (OnOneNode less inside same) = rises_on_node j inside i less same
+  later_step i j (OnOneNode less inside same) = later_on_node j inside i less same
   later_step i j (ByMessage number inside receipt last) = (is_ruled j inside).after_sent number i receipt last
 
-  -- a stamp that goes on from its node's last goes on from that of the node's last event
-  on_node : (j : ℕ) → j < length events → GoesOn (its_last events j) (event_at events j).stamp
+  -- a stamp that goes on from the last of its node goes on from that of the node's last event
+  from_last : (j : ℕ) → j < length events → GoesOn (its_last events j) (event_at events j).stamp
       → (i : ℕ) × IsLastOf events (event_at events j).node j i × GoesOn (event_at events i).stamp (event_at events j).stamp
-  on_node j inside on = elim (last_before j inside) [
+  from_last j inside on = elim (last_before j inside) [
     | inl last ↦ (last.0, last.1, rw last.1.stamp on)
     | inr none ↦ absurd (omega (arith, on.0, ap (λ s. s.time) none.stamp, not_early j inside, (entered j inside).reading))
   ]
@@ -129,7 +131,7 @@ module _ {K : Type 0} {setup : Setup} {events : List (Event K)} (entered : AreEn
       ⊎ ((i : ℕ) × IsStep events i j × GoesOn (event_at events i).stamp (event_at events j).stamp)
   from_step j inside = elim (is_ruled j inside).from [
     | inl start ↦ inl start
-    | inr (inl on) ↦ let last = on_node j inside on in inr (last.0, OnOneNode last.1.before inside last.1.of_node, last.2)
+    | inr (inl on) ↦ let last = from_last j inside on in inr (last.0, OnOneNode last.1.before inside last.1.of_node, last.2)
     | inr (inr sent) ↦ inr (sent.0, sent.1, sent.2)
   ]
 
@@ -151,11 +153,12 @@ module _ {K : Type 0} {setup : Setup} {events : List (Event K)} (entered : AreEn
   near_own : (j : ℕ) → (event_at events j).stamp.time ≤ (event_at events j).reading + setup.lead → IsNear j
   near_own j near = record { place = j; not_behind = omega arith; of_node = refl; near = near }
 
+  -- each event is so
   near : (j : ℕ) → j < length events → IsNear j
   near = by_earlier _ (λ j earlier inside. elim (is_ruled j inside).from [
     | inl start ↦ near_own j (omega (arith, start.0))
     | inr (inl on) ↦
-        let last = on_node j inside on in
+        let last = from_last j inside on in
         let before = earlier last.0 last.1.before (omega (arith, last.1.before, inside)) in
         record {
           place = before.place;
@@ -170,14 +173,9 @@ module _ {K : Type 0} {setup : Setup} {events : List (Event K)} (entered : AreEn
   pub ahead : (j : ℕ) → j < length events → (event_at events j).stamp.time ≤ (event_at events j).reading + setup.lead + setup.backstep (event_at events j).node
   ahead j inside =
       let is = near j inside in
-      elim (cases_order is.place j) [
-        | inl same ↦ omega (arith, is.near, ap (λ k. (event_at events k).reading) same)
-        | inr (inl less) ↦
-            let earlier = at_take events j is.place less in
-            let kept = (entered j inside).clock (event_at (take j events) is.place) (at_in no_event (take j events) is.place (inside_take events j is.place less (omega (arith, inside))))
-            (ap (λ e. e.node) earlier ∙ is.of_node) in
-            omega (arith, is.near, kept, ap (λ e. e.reading) earlier)
-        | inr (inr more) ↦ absurd (omega (arith, more, is.not_behind))
+      elim (cases_lt is.place j) [
+        | inl less ↦ omega (arith, is.near, (entered j inside).clock (event_at events is.place) (in_take events j is.place less (omega (arith, inside))) is.of_node)
+        | inr at ↦ let same : is.place ≡ j = omega (arith, at, is.not_behind) in omega (arith, is.near, ap (λ k. (event_at events k).reading) same)
       ]
 
   -- later stamps have higher codes

@@ -67,8 +67,9 @@ module _ {K : Type 0} {one other : List (Event K)} {to from : ℕ → ℕ} (move
   }
 
   -- Messages are kept where each number is sent once, and on the way back where they are on the way there.
-  keeps_sent_once : {setup : Setup} → AreEntered setup other → AreSentOnce one → KeepsMessages one other to
-  keeps_sent_once entered once number i j inside is last =
+  keeps_there : {setup : Setup} → AreEntered setup other → KeepsMessages one other to ⊎ AreSentOnce one → KeepsMessages one other to
+  keeps_there entered (inl keeps) = keeps
+  keeps_there entered (inr once) = λ number i j inside is last.
       let moved_inside = (moved.there j inside).0 in
       let receipt = receipt_of other (to j) number entered moved_inside (moved.what j inside ∙ is) in
       let send = earlier_send other (to j) moved_inside receipt.last_send in
@@ -139,16 +140,12 @@ module _ {K : Type 0} {one other : List (Event K)} {to from : ℕ → ℕ} (move
       let there = moved.there i inside in
       omega (arith, above i inside, below (to i) there.0, ap (λ place. of (event_at one place)) there.1)
 
-  keeps_by : {setup : Setup} → AreEntered setup other → KeepsMessages one other to ⊎ AreSentOnce one → KeepsMessages one other to
-  keeps_by entered (inl keeps) = keeps
-  keeps_by entered (inr once) = keeps_sent_once entered once
-
 -- the same events in two orders have the same stamps
 module _ {K : Type 0} {setup other_setup : Setup} {one other : List (Event K)} {to from : ℕ → ℕ} where
   pub stamps_same : AreEntered setup one → AreEntered other_setup other → AreTimed one → AreCounted one → AreTimed other → AreCounted other
       → IsReordering one other to from → KeepsMessages one other to ⊎ AreSentOnce one → AreKept one other to (λ e. e.stamp)
   stamps_same entered other_entered times counters other_times other_counters moved messages i inside =
-      let keeps = keeps_by moved other_entered messages in
+      let keeps = keeps_there moved other_entered messages in
       let keeps_from = keeps_back moved entered keeps in
       let back = turned moved in
       let time = same_number moved (λ e. e.stamp.time) (time_at_most moved keeps times other_times) (time_at_most back keeps_from other_times times) in

@@ -1,5 +1,5 @@
 -- Puts have exactly one answer and one page at each stamp, since a store that they are put into, one after another, has them in order.
-use Rattle.std.proofs.Common.{◌≡◌, ℕ, suc, ◌<◌, ◌⊎◌, inl, inr, false, List, [], ◌∷◌, Some, None, Option, refl, sym, ◌∙◌, subst, arith}
+use Rattle.std.proofs.Common.{◌≡◌, ℕ, suc, ◌<◌, ◌⊎◌, ◌↔◌, inl, inr, false, List, [], ◌∷◌, Some, None, Option, refl, sym, ◌∙◌, subst, arith}
 use Rattle.std.specs.Cmp.{IsTotalOrder}
 use Rattle.std.specs.declared.cmp.Ordering.{Ordering}
 use Rattle.std.specs.List.{cons_option, fold}
@@ -39,28 +39,20 @@ module _ {K : Type 0} where
     abbrev pub recorded : List (Version K) → List (Version K)
     recorded vs = recorded_onto [] vs
 
-    in_with : (u v : Version K) (ws : List (Version K)) → IsIn u (v ∷ ws) → IsIn u (with_version order v ws)
-    in_with u v [] is_in = is_in
-    in_with u v (w ∷ ws) is_in = let more = in_with u v ws in grind arith
+    with_same : (u v : Version K) (ws : List (Version K)) → IsIn u (v ∷ ws) ↔ IsIn u (with_version order v ws)
+    with_same u v [] = (λ is_in. is_in, λ is_in. is_in)
+    with_same u v (w ∷ ws) = let more = with_same u v ws in (λ is_in. grind arith, λ is_in. grind arith)
 
-    from_with : (u v : Version K) (ws : List (Version K)) → IsIn u (with_version order v ws) → IsIn u (v ∷ ws)
-    from_with u v [] is_in = is_in
-    from_with u v (w ∷ ws) is_in = let more = from_with u v ws in grind arith
-
-    onto_there : (u : Version K) (vs ws : List (Version K)) → IsIn u vs ⊎ IsIn u ws → IsIn u (recorded_onto ws vs)
-    onto_there u [] ws is_in = grind arith
-    onto_there u (v ∷ vs) ws is_in = let more = onto_there u vs (with_version order v ws) in let first = in_with u v ws in grind arith
-
-    onto_back : (u : Version K) (vs ws : List (Version K)) → IsIn u (recorded_onto ws vs) → IsIn u vs ⊎ IsIn u ws
-    onto_back u [] ws is_in = inr is_in
-    onto_back u (v ∷ vs) ws is_in = let more = onto_back u vs (with_version order v ws) is_in in let first = from_with u v ws in grind arith
+    onto_same : (u : Version K) (vs ws : List (Version K)) → (IsIn u vs ⊎ IsIn u ws) ↔ IsIn u (recorded_onto ws vs)
+    onto_same u [] ws = (λ is_in. grind arith, λ is_in. inr is_in)
+    onto_same u (v ∷ vs) ws = let more = onto_same u vs (with_version order v ws) in let first = with_same u v ws in (λ is_in. grind arith, λ is_in. grind arith)
 
     -- what is recorded is what was put in
     pub recorded_there : (v : Version K) (vs : List (Version K)) → IsIn v vs → IsIn v (recorded vs)
-    recorded_there v vs is_in = onto_there v vs [] (inl is_in)
+    recorded_there v vs is_in = (onto_same v vs []).0 (inl is_in)
 
     pub recorded_back : (v : Version K) (vs : List (Version K)) → IsIn v (recorded vs) → IsIn v vs
-    recorded_back v vs is_in = let back = onto_back v vs [] is_in in grind arith
+    recorded_back v vs is_in = let back = (onto_same v vs []).1 is_in in grind arith
 
     pub recorded_same : (stamp : ℕ) (vs : List (Version K)) → AreSameUpTo stamp (recorded vs) vs
     recorded_same stamp vs = record { there = λ v below. recorded_back v vs; back = λ v below. recorded_there v vs }
@@ -78,7 +70,7 @@ module _ {K : Type 0} where
       onto_sorted [] ws sorted rising before = sorted
       onto_sorted (v ∷ vs) ws sorted rising before =
           let new = no_id v ws (λ w is_in same. before w is_in v (inl refl) (sym same)) in
-          onto_sorted vs (with_version order v ws) (sorted_with_version order total v ws sorted new) rising.1 (λ w is_in. elim (from_with w v ws is_in) [
+          onto_sorted vs (with_version order v ws) (sorted_with_version order total v ws sorted new) rising.1 (λ w is_in. elim ((with_same w v ws).1 is_in) [
             | inl here ↦ subst (λ u. IsEarlier u vs) (sym here) rising.0
             | inr there ↦ λ u behind. before w there u (inr behind)
           ])

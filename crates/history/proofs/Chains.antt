@@ -1,6 +1,6 @@
 -- What single steps say of an event's stamp, all that happened before it says too: its time is the largest reading, its counter
 -- the length of the longest chain, and it is later.
-use Rattle.std.proofs.Common.{◌≡◌, ℕ, suc, ◌+◌, ◌<◌, ◌≤◌, ◌⊎◌, inl, inr, List, [], ◌∷◌, ◌++◌, length, refl, sym, ap, ◌∙◌, subst, arith}
+use Rattle.std.proofs.Common.{◌≡◌, ℕ, suc, ◌+◌, ◌<◌, ◌≤◌, ◌⊎◌, inl, inr, List, [], ◌∷◌, ◌++◌, length, refl, sym, ◌∙◌, subst, arith}
 use Rattle.std.proofs.lemmas.List.{length_push}
 use Rattle.stamps.specs.Stamp.{Timestamp}
 use Rattle.store.specs.Newest.{IsIn}

@@ -1,5 +1,5 @@
 -- Every history is lawful.
-use Rattle.std.proofs.Common.{◌≡◌, ℕ, ◌++◌, List, length, Option, sym, subst}
+use Rattle.std.proofs.Common.{◌≡◌, ℕ, List, length, Option, subst}
 use Rattle.std.specs.Prelude.{drop, take}
 use Rattle.std.specs.declared.cmp.Ordering.{Ordering}
 use Rattle.std.proofs.lemmas.List.{take-append-drop}
@@ -8,7 +8,7 @@ use Rattle.store.specs.Page.{IsPage}
 use Rattle.store.specs.declared.version.Version.{Version}
 use Rattle.history.specs.Events.{puts}
 use Rattle.history.specs.History.{Closed, Cut, Entry, IsHistory, IsSettled, MayBeWritten, Read, Setup, events_of}
-use Rattle.history.specs.Law.{Counter, Cuts, Drift, IsLawful, Later, LeavesAnswers, Reads, Time}
+use Rattle.history.specs.Law.{Counter, Cuts, Drift, IsLawful, Later, Reads, Time}
 use Rattle.history.proofs.Chains.{largest, longest}
 use Rattle.history.proofs.Stamping.{ahead, follows, higher}
 use Rattle.history.proofs.Entries.{are_entered}

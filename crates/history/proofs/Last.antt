@@ -11,6 +11,7 @@ use Rattle.history.specs.Events.{Event, event_at, no_event}
 use Rattle.history.specs.History.{last_stamp}
 use Rattle.history.proofs.Lists.{up_to_next}
 
+-- the last of a list with x at its end is x
 last_or-push : {X : Type 0} (found : Option X) (xs : List X) (x : X) → last_or found (xs ++ x ∷ []) ≡ Some x
 last_or-push found [] x = refl
 last_or-push found (y ∷ ys) x = last_or-push (Some y) ys x

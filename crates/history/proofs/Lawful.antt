@@ -25,7 +25,7 @@ module _ {K : Type 0} (order : K → K → Ordering) (setup : Setup) (history : 
   behind : (entry : Entry K) → IsIn entry history → (place : ℕ) × MayBeWritten order setup (take place history) entry
   behind entry is_in = let at = placed Closed entry history is_in in (at.0, subst (MayBeWritten order setup (take at.0 history)) at.2 (written at.0 at.1))
 
-  -- and at a stamp that is settled there, the puts so far are all puts
+  -- and at or below a stamp that is settled there, the puts so far are all puts
   all_puts : (place stamp : ℕ) → IsSettled setup (take place history) stamp → AreSameUpTo stamp (puts (events_of (take place history))) (puts (events_of history))
   all_puts place stamp settled =
       let whole = take-append-drop place history in

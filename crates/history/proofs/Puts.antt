@@ -5,7 +5,6 @@ use Rattle.std.proofs.lemmas.List.Elements.{filter_map-append}
 use Rattle.stamps.specs.Stamp.{code_of}
 use Rattle.store.specs.Newest.{IsIn}
 use Rattle.store.specs.declared.version.Version.{Version}
-use Rattle.store.proofs.InWords.{some_or_none}
 use Rattle.history.specs.Events.{Event, Note, Put, Receipt, Send, What, event_at, puts, version_of}
 
 -- v is the version of an event that did this
@@ -14,9 +13,9 @@ pub record IsOfPut {K : Type 0} (e : Event K) (what : What K) (v : Version K) : 
   pub node : v.node ≡ e.node
 
 pub of_put : {K : Type 0} (e : Event K) (what : What K) (v : Version K) → version_of e what ≡ Some v → IsOfPut e what v
-of_put e Note v is = absurd (some_or_none (sym is))
-of_put e (Send number) v is = absurd (some_or_none (sym is))
-of_put e (Receipt number) v is = absurd (some_or_none (sym is))
+of_put e Note v is = absurd (cc is)
+of_put e (Send number) v is = absurd (cc is)
+of_put e (Receipt number) v is = absurd (cc is)
 of_put e (Put key value) v is = record { stamp = cc is; node = cc is }
 
 -- v was put by the event at a place

@@ -20,7 +20,7 @@ use Rattle.history.proofs.SameVersions.{AreSameUpTo, answers_alike, pages_alike}
 use Rattle.history.proofs.Places.{AreEntered, at_take, inside_take}
 
 module _ {K : Type 0} {setup : Setup} {events : List (Event K)} (entered : AreEntered setup events) (n : ℕ) (within : n ≤ length events) where
-  -- where the last stamp of a node is not below the stamp, a later event of the node is above it
+  -- where the last stamp of a node among the first n events is not below a stamp, later events of the node are above it
   above_last : (node stamp : ℕ) → stamp ≤ code_of (last_stamp (take n events) node) → (place : ℕ) → n ≤ place → place < length events → (event_at events place).node ≡ node
       → stamp < code_of (event_at events place).stamp
   above_last node stamp passed place behind inside same = elim (has_last events node n within) [
@@ -30,7 +30,7 @@ module _ {K : Type 0} {setup : Setup} {events : List (Event K)} (entered : AreEn
     | inr none ↦ omega (arith, passed, ap code_of none.stamp, not_early entered place inside, (entered place inside).reading)
   ]
 
-  -- and its last stamp of all is not below the stamp
+  -- and the last stamp of the node among all events is not below it
   last_rises : (node stamp : ℕ) → stamp ≤ code_of (last_stamp (take n events) node) → stamp ≤ code_of (last_stamp events node)
   last_rises node stamp passed = elim (has_last events node n within) [
     | inr none ↦ omega (arith, passed, ap code_of none.stamp)
@@ -47,7 +47,7 @@ module _ {K : Type 0} {setup : Setup} {events : List (Event K)} (entered : AreEn
         ])
   ]
 
-  -- where all later events are above the stamp, no later put is at or below it
+  -- where all later events are above a stamp, no later put is at or below it
   module _ (stamp : ℕ) (above : (place : ℕ) → n ≤ place → place < length events → stamp < code_of (event_at events place).stamp) where
     not_later : (v : Version K) → v.stamp ≤ stamp → IsIn v (puts events) → IsIn v (puts (take n events))
     not_later v below is_in =
@@ -71,7 +71,7 @@ module _ {K : Type 0} (order : K → K → Ordering) (setup : Setup) (earlier la
   lengths : length (events_of (earlier ++ later)) ≡ length (events_of earlier) + length (events_of later)
   lengths = ap length (events_of-append earlier later) ∙ length-append (events_of earlier) (events_of later)
 
-  -- the earlier events are the first
+  -- the earlier events are the first: so many
   abbrev first : ℕ
   first = length (events_of earlier)
 
@@ -90,6 +90,7 @@ module _ {K : Type 0} (order : K → K → Ordering) (setup : Setup) (earlier la
       let may = subst (MayBeWritten order setup (take place (earlier ++ later))) is (written place (omega (arith, entry.inside, length-append earlier later))) in
       may.0 (subst (IsIn Closed) (sym (take-append-add earlier later entry.place)) (in_append Closed earlier (take entry.place later) (inl closed)))
 
+  -- a settled stamp stays settled, and all later events are above it, so that the puts at or below it stay the same
   stays_settled : IsSettled setup earlier stamp → IsSettled setup (earlier ++ later) stamp
   stays_settled (inl closed) = inl (in_append Closed earlier later (inl closed))
   stays_settled (inr passed) = inr (λ node is. last_rises entered first within node stamp (rw are_first (passed node is)))

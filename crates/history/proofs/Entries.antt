@@ -1,44 +1,47 @@
 -- The events of a history are entered one behind another.
-use Rattle.std.proofs.Common.{◌≡◌, ℕ, zero, suc, ◌+◌, ◌<◌, ◌≤◌, inl, inr, List, [], ◌∷◌, ◌++◌, length, sym, ap, ◌∙◌, subst, arith}
+use Rattle.std.proofs.Common.{◌≡◌, ℕ, zero, suc, ◌<◌, List, [], ◌∷◌, ◌++◌, length, refl, sym, ap, ◌∙◌, subst, arith}
 use Rattle.std.specs.Prelude.{take}
 use Rattle.std.specs.declared.cmp.Ordering.{Ordering}
-use Rattle.std.proofs.lemmas.List.{append-nil, get_or_append_left, take_all, take_more}
 use Rattle.std.proofs.lemmas.List.Elements.{filter_map-append}
-use Rattle.store.specs.Newest.{IsIn}
-use Rattle.history.specs.Events.{Event, event_at, no_event}
+use Rattle.history.specs.Events.{event_at}
 use Rattle.history.specs.History.{Closed, Cut, Entered, Entry, IsHistory, MayBeWritten, MayEnter, Read, Setup, entry_at, event_of, events_of}
-use Rattle.history.proofs.Lists.{one_more}
 use Rattle.history.proofs.Places.{AreEntered}
 
 module _ {K : Type 0} where
-  pub event_at-earlier : (earlier later : List (Event K)) (place : ℕ) → place < length earlier → event_at (earlier ++ later) place ≡ event_at earlier place
-  event_at-earlier earlier later place inside = get_or_append_left earlier later no_event place inside
-
   pub events_of-append : (earlier later : List (Entry K)) → events_of (earlier ++ later) ≡ events_of earlier ++ events_of later
   events_of-append = filter_map-append event_of
 
-module _ {K : Type 0} (order : K → K → Ordering) (setup : Setup) where
-  -- the events of one entry more
-  enter_entry : (history : List (Entry K)) (entry : Entry K) → AreEntered setup (events_of history) → MayBeWritten order setup history entry → AreEntered setup (events_of history ++ events_of (entry ∷ []))
-  enter_entry history (Entered e) entered may = one_more (MayEnter setup) no_event (events_of history) e entered may.1
-  enter_entry history (Read key stamp answer) entered may = rw (append-nil (events_of history)) entered
-  enter_entry history (Cut stamp count rows) entered may = rw (append-nil (events_of history)) entered
-  enter_entry history Closed entered may = rw (append-nil (events_of history)) entered
+  -- Event j of a history is the event of the entry at a place, and the events before it are those of the entries before that place.
+  pub record HasEntry (history : List (Entry K)) (j : ℕ) : Type 0 where
+    pub place : ℕ
+    pub inside : place < length history
+    pub is : entry_at history place ≡ Entered (event_at (events_of history) j)
+    pub before : events_of (take place history) ≡ take j (events_of history)
 
-  entered_up_to : (history : List (Entry K)) (n : ℕ) → n ≤ length history → IsHistory order setup history → AreEntered setup (events_of (take n history))
-  entered_up_to history zero within written = λ j inside. absurd (omega (arith, inside))
-  entered_up_to history (suc n) within written =
-      let before = entered_up_to history n (omega (arith, within)) written in
-      let more = enter_entry (take n history) (entry_at history n) before (written n (omega (arith, within))) in
-      let next : n + 1 ≡ suc n = omega arith in
-      let longer : take (suc n) history ≡ take n history ++ entry_at history n ∷ [] = ap (λ k. take k history) (sym next) ∙ take_more history n Closed (omega (arith, within)) in
-      subst (AreEntered setup) (sym (ap events_of longer ∙ events_of-append (take n history) (entry_at history n ∷ []))) more
+  -- an entry that is no event puts it one place further
+  has_entry_behind : (entry : Entry K) → ((entries : List (Entry K)) → events_of (entry ∷ entries) ≡ events_of entries)
+      → (history : List (Entry K)) (j : ℕ) → HasEntry history j → HasEntry (entry ∷ history) j
+  has_entry_behind entry none history j more = record {
+    place = suc more.place;
+    inside = omega (arith, more.inside);
+    is = rw (none history) more.is;
+    before = none (take more.place history) ∙ more.before ∙ ap (take j) (sym (none history));
+  }
 
-  pub are_entered : (history : List (Entry K)) → IsHistory order setup history → AreEntered setup (events_of history)
-  are_entered history written = subst (λ h. AreEntered setup (events_of h)) (take_all (length history) history (omega arith)) (entered_up_to history (length history) (omega arith) written)
+  -- each event has its entry
+  pub has_entry : (history : List (Entry K)) (j : ℕ) → j < length (events_of history) → HasEntry history j
+  has_entry [] j inside = absurd (omega (arith, inside))
+  has_entry (Entered e ∷ history) zero inside = record { place = 0; inside = omega arith; is = refl; before = refl }
+  has_entry (Entered e ∷ history) (suc j) inside =
+      let more = has_entry history j (omega (arith, inside)) in
+      record { place = suc more.place; inside = omega (arith, more.inside); is = more.is; before = ap (λ events. e ∷ events) more.before }
+  has_entry (Read key stamp answer ∷ history) j inside = has_entry_behind _ (λ es. refl) history j (has_entry history j inside)
+  has_entry (Cut stamp count rows ∷ history) j inside = has_entry_behind _ (λ es. refl) history j (has_entry history j inside)
+  has_entry (Closed ∷ history) j inside = has_entry_behind _ (λ es. refl) history j (has_entry history j inside)
 
--- what is in a history stands at a place
-pub placed : {K : Type 0} (entry : Entry K) (history : List (Entry K)) → IsIn entry history → (place : ℕ) × (place < length history) × (entry_at history place ≡ entry)
-placed entry [] is_in = elim is_in [ ]
-placed entry (other ∷ history) (inl here) = (0, omega arith, sym here)
-placed entry (other ∷ history) (inr there) = let found = placed entry history there in (suc found.0, omega (arith, found.1), found.2)
+  -- so that it was entered behind the events before it
+  pub are_entered : (order : K → K → Ordering) (setup : Setup) (history : List (Entry K)) → IsHistory order setup history → AreEntered setup (events_of history)
+  are_entered order setup history written j inside =
+      let entry = has_entry history j inside in
+      let may = subst (MayBeWritten order setup (take entry.place history)) entry.is (written entry.place entry.inside) in
+      subst (λ earlier. MayEnter setup earlier (event_at (events_of history) j)) entry.before may.1

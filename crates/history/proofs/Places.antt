@@ -1,5 +1,5 @@
--- Places of events.
-use Rattle.std.proofs.Common.{◌≡◌, ℕ, zero, suc, ◌<◌, ◌≤◌, inl, inr, List, [], ◌∷◌, length, refl, arith}
+-- Where events stand, and which step leads where.
+use Rattle.std.proofs.Common.{◌≡◌, ℕ, ◌<◌, ◌≤◌, inl, inr, List, length, arith}
 use Rattle.std.proofs.lemmas.Bool.{cases_order}
 use Rattle.std.proofs.lemmas.List.{get_or-take, length-take-le}
 use Rattle.std.specs.Prelude.{take}
@@ -8,6 +8,7 @@ use Rattle.store.specs.Newest.{IsIn}
 use Rattle.history.specs.Events.{Event, event_at, no_event}
 use Rattle.history.specs.Before.{HappenedBefore, InMoreSteps, InOneStep, IsLastSend, IsStep, ByMessage, OnOneNode}
 use Rattle.history.specs.History.{MayEnter, Setup}
+use Rattle.history.proofs.Lists.{at_in}
 
 module _ {K : Type 0} where
   -- each of the events may be entered behind those before it
@@ -19,16 +20,15 @@ module _ {K : Type 0} where
   NodesRise events = (i j : ℕ) → i < j → j < length events → (event_at events i).node ≡ (event_at events j).node
       → code_of (event_at events i).stamp < code_of (event_at events j).stamp
 
-  pub at_in : (events : List (Event K)) (place : ℕ) → place < length events → IsIn (event_at events place) events
-  at_in [] place inside = absurd (omega (arith, inside))
-  at_in (e ∷ events) zero inside = inl refl
-  at_in (e ∷ events) (suc place) inside = inr (at_in events place (omega (arith, inside)))
-
+  -- the first n events stand where they stand among all
   pub at_take : (events : List (Event K)) (n place : ℕ) → place < n → event_at (take n events) place ≡ event_at events place
   at_take events n place before = get_or-take n events place no_event before
 
   pub inside_take : (events : List (Event K)) (n place : ℕ) → place < n → n ≤ length events → place < length (take n events)
   inside_take events n place before within = omega (arith, before, length-take-le n events within)
+
+  pub in_take : (events : List (Event K)) (n place : ℕ) → place < n → n ≤ length events → IsIn (event_at events place) (take n events)
+  in_take events n place before within = rw (← at_take events n place before) (at_in no_event (take n events) place (inside_take events n place before within))
 
 module _ {K : Type 0} {events : List (Event K)} where
   -- a number has one last send
@@ -39,7 +39,7 @@ module _ {K : Type 0} {events : List (Event K)} where
     | inr (inr more) ↦ absurd (second.none_behind i more first.inside first.sends)
   ]
 
-  -- steps lead to later places
+  -- steps lead to later events, and so does what happened before
   pub step_to : {i j : ℕ} → IsStep events i j → j < length events
   step_to (OnOneNode before inside same) = inside
   step_to (ByMessage number inside receipt last) = inside

@@ -1,11 +1,12 @@
 -- Where the events of one order are those of another, so are their puts.
-use Rattle.std.proofs.Common.{◌≡◌, ℕ, ◌<◌, List, length, sym, ap, ◌∙◌}
-use Rattle.history.specs.Events.{Event, event_at, puts, version_of}
+use Rattle.std.proofs.Common.{◌≡◌, ℕ, ◌<◌, List, length}
+use Rattle.history.specs.Events.{Event, event_at, puts}
 use Rattle.history.specs.Unique.{IsReordering}
-use Rattle.history.proofs.Puts.{put_at, put_in}
+use Rattle.history.proofs.Puts.{in_puts, put_at}
 use Rattle.history.proofs.SameVersions.{AreSameUpTo}
+use Rattle.history.proofs.StampsMoved.{AreKept}
 
-module _ {K : Type 0} {one other : List (Event K)} {to from : ℕ → ℕ} (moved : IsReordering one other to from) (stamps : (i : ℕ) → i < length one → (event_at other (to i)).stamp ≡ (event_at one i).stamp) where
+module _ {K : Type 0} {one other : List (Event K)} {to from : ℕ → ℕ} (moved : IsReordering one other to from) (stamps : AreKept one other to (λ e. e.stamp)) where
   -- an event is the same at its other place, so that it puts the same version
   event_moved : (i : ℕ) → i < length one → event_at other (to i) ≡ event_at one i
   event_moved i inside = λ k. record { node = moved.node i inside k; reading = moved.reading i inside k; stamp = stamps i inside k; what = moved.what i inside k }
@@ -14,9 +15,9 @@ module _ {K : Type 0} {one other : List (Event K)} {to from : ℕ → ℕ} (move
   puts_same stamp = record {
     there = λ v below is_in.
         let put = put_at one v is_in in
-        put_in other v (record { place = to put.place; inside = (moved.there put.place put.inside).0; is = ap (λ e. version_of e e.what) (event_moved put.place put.inside) ∙ put.is });
+        in_puts other v (to put.place) (moved.there put.place put.inside).0 (rw (event_moved put.place put.inside) put.is);
     back = λ v below is_in.
         let put = put_at other v is_in in
         let place = moved.back put.place put.inside in
-        put_in one v (record { place = from put.place; inside = place.0; is = ap (λ e. version_of e e.what) (sym (event_moved (from put.place) place.0) ∙ ap (event_at other) place.1) ∙ put.is });
+        in_puts one v (from put.place) place.0 (rw (← event_moved (from put.place) place.0, place.1) put.is);
   }

@@ -12,7 +12,7 @@ pub record AreSameUpTo {K : Type 0} (stamp : ℕ) (vs ws : List (Version K)) : T
   pub back : (v : Version K) → v.stamp ≤ stamp → IsIn v ws → IsIn v vs
 
 module _ {K : Type 0} {stamp : ℕ} {vs ws : List (Version K)} where
-  pub same_back : AreSameUpTo stamp vs ws → AreSameUpTo stamp ws vs
+  same_back : AreSameUpTo stamp vs ws → AreSameUpTo stamp ws vs
   same_back same = record { there = same.back; back = same.there }
 
   newest_carries : AreSameUpTo stamp vs ws → (key : K) (v : Version K) → IsNewest vs key stamp v → IsNewest ws key stamp v
@@ -24,14 +24,14 @@ module _ {K : Type 0} {stamp : ℕ} {vs ws : List (Version K)} where
   }
 
   -- what is answered of the one is answered of the other
-  pub answer_carries : AreSameUpTo stamp vs ws → (key : K) (answer : Option (Version K)) → IsReadAnswer vs key stamp answer → IsReadAnswer ws key stamp answer
+  answer_carries : AreSameUpTo stamp vs ws → (key : K) (answer : Option (Version K)) → IsReadAnswer vs key stamp answer → IsReadAnswer ws key stamp answer
   answer_carries same key (Some v) newest = newest_carries same key v newest
   answer_carries same key None none = λ w is_in of_key. elim (cases_lt stamp w.stamp) [
     | inl above ↦ above
     | inr below ↦ none w (same.back w below is_in) of_key
   ]
 
-  pub page_carries : (order : K → K → Ordering) → AreSameUpTo stamp vs ws → (rows : List (Version K)) → IsPage order vs stamp rows → IsPage order ws stamp rows
+  page_carries : (order : K → K → Ordering) → AreSameUpTo stamp vs ws → (rows : List (Version K)) → IsPage order vs stamp rows → IsPage order ws stamp rows
   page_carries order same rows page = record {
     ascending = page.ascending;
     newest = λ row is_in. newest_carries same row.key row (page.newest row is_in);

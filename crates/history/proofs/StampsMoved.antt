@@ -11,11 +11,11 @@ use Rattle.history.specs.Unique.{AreSentOnce, IsReordering, KeepsMessages}
 
 module _ {K : Type 0} (events : List (Event K)) where
   -- each event's time is the largest reading up to it
-  abbrev pub AreTimed : Type 0
+  abbrev AreTimed : Type 0
   AreTimed = (j : ℕ) → j < length events → IsLargestReading events j (event_at events j).stamp.time
 
   -- and its counter the length of the longest chain to it
-  abbrev pub AreCounted : Type 0
+  abbrev AreCounted : Type 0
   AreCounted = (j : ℕ) → j < length events → IsLongestChain events j (event_at events j).stamp.counter
 
   -- the last send before an event is an earlier event, and sends the number in the whole list too
@@ -29,10 +29,18 @@ module _ {K : Type 0} (events : List (Event K)) where
       → IsReceived setup.lead (take j events) (event_at events j) number
   receipt_of {setup} j number entered inside is = subst (IsStamped setup.lead (take j events) (event_at events j)) is (entered j inside).stamped
 
+module _ {K : Type 0} (one other : List (Event K)) (to : ℕ → ℕ) where
+  -- this is the same of each event there
+  abbrev pub AreKept : {X : Type 0} → (Event K → X) → Type 0
+  AreKept of = (i : ℕ) → i < length one → of (event_at other (to i)) ≡ of (event_at one i)
+
+  -- this number of each event is no larger than there
+  abbrev AreAtMost : (Event K → ℕ) → Type 0
+  AreAtMost of = (i : ℕ) → i < length one → of (event_at one i) ≤ of (event_at other (to i))
+
 module _ {K : Type 0} {one other : List (Event K)} {to from : ℕ → ℕ} (moved : IsReordering one other to from) where
-  -- what each event keeps on the way there it keeps on the way back
-  kept_back : {X : Type 0} (of : Event K → X) → ((i : ℕ) → i < length one → of (event_at other (to i)) ≡ of (event_at one i))
-      → (i : ℕ) → i < length other → of (event_at one (from i)) ≡ of (event_at other i)
+  -- what is kept on the way there is kept on the way back
+  kept_back : {X : Type 0} (of : Event K → X) → AreKept one other to of → AreKept other one from of
   kept_back of kept i inside = let back = moved.back i inside in sym (kept (from i) back.0) ∙ ap (λ place. of (event_at other place)) back.1
 
   in_order_back : (i j : ℕ) → i < j → j < length other → (event_at other i).node ≡ (event_at other j).node → from i < from j
@@ -59,8 +67,9 @@ module _ {K : Type 0} {one other : List (Event K)} {to from : ℕ → ℕ} (move
   }
 
   -- Messages are kept where each number is sent once, and on the way back where they are on the way there.
-  keeps_sent_once : {setup : Setup} → AreEntered setup other → AreSentOnce one → KeepsMessages one other to
-  keeps_sent_once entered once number i j inside is last =
+  keeps_there : {setup : Setup} → AreEntered setup other → KeepsMessages one other to ⊎ AreSentOnce one → KeepsMessages one other to
+  keeps_there entered (inl keeps) = keeps
+  keeps_there entered (inr once) = λ number i j inside is last.
       let moved_inside = (moved.there j inside).0 in
       let receipt = receipt_of other (to j) number entered moved_inside (moved.what j inside ∙ is) in
       let send = earlier_send other (to j) moved_inside receipt.last_send in
@@ -97,14 +106,14 @@ module _ {K : Type 0} {one other : List (Event K)} {to from : ℕ → ℕ} (move
     up_to_there i j inside (inl same) = (omega (arith, same), inl (ap to same))
     up_to_there i j inside (inr before) = (omega (arith, before_less before, inside), inr (before_there i j before))
 
-    time_at_most : AreTimed one → AreTimed other → (j : ℕ) → j < length one → (event_at one j).stamp.time ≤ (event_at other (to j)).stamp.time
+    time_at_most : AreTimed one → AreTimed other → AreAtMost one other to (λ e. e.stamp.time)
     time_at_most times other_times j inside =
         let largest = (times j inside).one in
         let there = up_to_there largest.0 j inside largest.1 in
         omega (arith, largest.2, moved.reading largest.0 there.0, (other_times (to j) (moved.there j inside).0).none_larger (to largest.0) there.1)
 
     -- where events keep their times, a counter is no larger than the counter there
-    module _ (times : (i : ℕ) → i < length one → (event_at other (to i)).stamp.time ≡ (event_at one i).stamp.time) where
+    module _ (times : AreKept one other to (λ e. e.stamp.time)) where
       chain_there : (chain : List ℕ) → IsChain one chain → IsChain other (map to chain)
       chain_there [] is = tt
       chain_there (i ∷ []) is = tt
@@ -119,34 +128,29 @@ module _ {K : Type 0} {one other : List (Event K)} {to from : ℕ → ℕ} (move
             times i (omega (arith, before_less before, before_to before)) ∙ is.of_its_time i is_in ∙ sym (times j (before_to before)));
       }
 
-      counter_at_most : AreCounted one → AreCounted other → (j : ℕ) → j < length one → (event_at one j).stamp.counter ≤ (event_at other (to j)).stamp.counter
+      counter_at_most : AreCounted one → AreCounted other → AreAtMost one other to (λ e. e.stamp.counter)
       counter_at_most counters other_counters j inside =
           let longest = (counters j inside).one in
           let there = chain_to_there j longest.0 longest.1 in
           omega (arith, longest.2, length-map longest.0 to, (other_counters (to j) (moved.there j inside).0).none_longer (map to longest.0) there)
 
   -- a number that is no larger on the way there, nor on the way back, is the same
-  same_number : (of : Event K → ℕ) → ((i : ℕ) → i < length one → of (event_at one i) ≤ of (event_at other (to i)))
-      → ((i : ℕ) → i < length other → of (event_at other i) ≤ of (event_at one (from i)))
-      → (i : ℕ) → i < length one → of (event_at other (to i)) ≡ of (event_at one i)
+  same_number : (of : Event K → ℕ) → AreAtMost one other to of → AreAtMost other one from of → AreKept one other to of
   same_number of above below i inside =
       let there = moved.there i inside in
       omega (arith, above i inside, below (to i) there.0, ap (λ place. of (event_at one place)) there.1)
 
-  keeps_by : {setup : Setup} → AreEntered setup other → KeepsMessages one other to ⊎ AreSentOnce one → KeepsMessages one other to
-  keeps_by entered (inl keeps) = keeps
-  keeps_by entered (inr once) = keeps_sent_once entered once
-
 -- the same events in two orders have the same stamps
 module _ {K : Type 0} {setup other_setup : Setup} {one other : List (Event K)} {to from : ℕ → ℕ} where
   pub stamps_same : AreEntered setup one → AreEntered other_setup other → AreTimed one → AreCounted one → AreTimed other → AreCounted other
-      → IsReordering one other to from → KeepsMessages one other to ⊎ AreSentOnce one
-      → (i : ℕ) → i < length one → (event_at other (to i)).stamp ≡ (event_at one i).stamp
+      → IsReordering one other to from → KeepsMessages one other to ⊎ AreSentOnce one → AreKept one other to (λ e. e.stamp)
   stamps_same entered other_entered times counters other_times other_counters moved messages i inside =
-      let keeps = keeps_by moved other_entered messages in
+      let keeps = keeps_there moved other_entered messages in
       let keeps_from = keeps_back moved entered keeps in
       let back = turned moved in
       let time = same_number moved (λ e. e.stamp.time) (time_at_most moved keeps times other_times) (time_at_most back keeps_from other_times times) in
       let time_back = kept_back moved (λ e. e.stamp.time) time in
-      let counter = same_number moved (λ e. e.stamp.counter) (counter_at_most moved keeps time counters other_counters) (counter_at_most back keeps_from time_back other_counters counters) in
+      let counters_there = counter_at_most moved keeps time counters other_counters in
+      let counters_back = counter_at_most back keeps_from time_back other_counters counters in
+      let counter = same_number moved (λ e. e.stamp.counter) counters_there counters_back in
       λ k. record { time = time i inside k; counter = counter i inside k }

@@ -3,13 +3,14 @@ use Rattle.std.specs.Cmp.{IsTotalOrder}
 use Rattle.std.specs.declared.cmp.Ordering.{Ordering}
 use Rattle.keys.specs.Order.{IsKeyOrder}
 use Rattle.history.specs.History.{events_of}
+use Rattle.history.specs.Law.{Counter, Time}
 use Rattle.history.specs.Unique.{OneAnswer, OnePage, OneStamping}
-use Rattle.history.proofs.Chains.{largest, longest}
 use Rattle.history.proofs.Entries.{are_entered}
+use Rattle.history.proofs.Lawful.{lawful}
 use Rattle.history.proofs.OneAnswer.{one_answer, one_page}
 use Rattle.history.proofs.PutsMoved.{puts_same}
 use Rattle.history.proofs.SameVersions.{answers_alike, pages_alike}
-use Rattle.history.proofs.Stamping.{follows, nodes_rise}
+use Rattle.history.proofs.Stamping.{nodes_rise}
 use Rattle.history.proofs.StampsMoved.{stamps_same}
 
 module _ {K : Type 0} (order : K → K → Ordering) where
@@ -22,12 +23,9 @@ module _ {K : Type 0} (order : K → K → Ordering) where
 
   pub stamps_once : OneStamping order
   stamps_once setup other_setup one other to from written other_written moved messages =
-      let entered = are_entered order setup one written in
-      let other_entered = are_entered order other_setup other other_written in
-      let follow = follows entered in
-      let other_follow = follows other_entered in
-      let same = stamps_same entered other_entered (largest (events_of one) follow) (longest (events_of one) follow)
-      (largest (events_of other) other_follow) (longest (events_of other) other_follow) moved messages in
+      let law = lawful order setup one written in
+      let other_law = lawful order other_setup other other_written in
+      let same = stamps_same (are_entered order setup one written) (are_entered order other_setup other other_written) (law Time) (law Counter) (other_law Time) (other_law Counter) moved messages in
       record {
         stamps = same;
         reads = λ key stamp answer. answers_alike (puts_same moved same stamp) key answer;

@@ -17,7 +17,7 @@ last_or-push found [] x = refl
 last_or-push found (y ∷ ys) x = last_or-push (Some y) ys x
 
 -- an event more is the last of its node, and of no other
-last_stamp-push : {K : Type 0} (events : List (Event K)) (e : Event K) (node : ℕ) (same : Bool) → (e.node == node) ≡ same
+pub last_stamp-push : {K : Type 0} (events : List (Event K)) (e : Event K) (node : ℕ) (same : Bool) → (e.node == node) ≡ same
     → last_stamp (events ++ e ∷ []) node ≡ (if same then e.stamp else last_stamp events node)
 last_stamp-push events e node true is = simp (filter-append, is, map-append, last_or-push)
 last_stamp-push events e node false is = simp (filter-append, is, append-nil)

@@ -20,7 +20,7 @@ pub ◌▹◌ : {A B : Type 0} → A → B → A × B
 a ▹ b = (a, b)
 
 -- Where each of a list may stand behind those before it, and x behind all, this holds with x at the end too. (d is what stands nowhere.)
-one_more : {X : Type 0} (May : List X → X → Type 0) (d : X) (xs : List X) (x : X) → ((j : ℕ) → j < length xs → May (take j xs) (get_or xs j d)) → May xs x
+pub one_more : {X : Type 0} (May : List X → X → Type 0) (d : X) (xs : List X) (x : X) → ((j : ℕ) → j < length xs → May (take j xs) (get_or xs j d)) → May xs x
     → (j : ℕ) → j < length (xs ++ x ∷ []) → May (take j (xs ++ x ∷ [])) (get_or (xs ++ x ∷ []) j d)
 one_more May d xs x each may j inside = elim (cases_lt j (length xs)) [
   | inl earlier ↦ rw (take-append-le j xs (x ∷ []) (omega (arith, earlier)), get_or_append_left xs (x ∷ []) d j earlier) (each j earlier)

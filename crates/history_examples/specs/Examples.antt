@@ -107,6 +107,10 @@ module _ {K : Type 0} (order : K → K → Ordering) where
   abbrev pub ExampleIsHistory : Type 0
   ExampleIsHistory = (key other : K) → order key other ≡ Less → IsHistory order small_setup (small_history key other)
 
+  -- and long ones: a counter may run to its end
+  abbrev pub LongIsHistory : Type 0
+  LongIsHistory = IsHistory order small_setup (notes 65536)
+
   -- there are histories of the same events in two orders, whatever the second number
   pub record ExampleIsReordered (key : K) (number : ℕ) : Type 0 where
     pub one : IsHistory order small_setup (one_order key number)

@@ -1,0 +1,46 @@
+-- Messages under way, and what the calls on them answer and change.
+use Rattle.std.specs.Prelude.{ℕ, Bool, not, if◌then◌else◌, ◌==◌, List, [], ◌∷◌, ◌++◌, length, nat_le, Ok, Err, Option, Result, is_ok}
+use Rattle.std.specs.List.{filter, find, list_any}
+use Rattle.stamps.specs.Stamp.{Timestamp, stamp_of}
+use Rattle.messages.specs.declared.message.Message.{Message}
+
+-- A message as numbers.
+pub record MessageNumbers : Type 0 where
+  pub number : ℕ
+  -- the node that is to receive it
+  pub to : ℕ
+  -- the stamp of its send
+  pub stamp : Timestamp
+
+abbrev pub message_numbers : Message → MessageNumbers
+message_numbers m = record { number = m.number; to = m.to; stamp = stamp_of m.stamp }
+
+-- has it this number?
+abbrev pub has_number : ℕ → MessageNumbers → Bool
+has_number number m = m.number == number
+
+-- is a message of this number under way?
+abbrev pub is_under_way : ℕ → List MessageNumbers → Bool
+is_under_way number messages = list_any (has_number number) messages
+
+-- the message of this number, or none
+abbrev pub message_of : ℕ → List MessageNumbers → Option MessageNumbers
+message_of number messages = find (has_number number) messages
+
+-- the messages of all other numbers
+abbrev pub without : ℕ → List MessageNumbers → List MessageNumbers
+without number messages = filter (λ m. not (has_number number m)) messages
+
+-- so many messages are under way at most
+abbrev pub most_under_way : ℕ
+most_under_way = 64
+
+-- whether a message of this number may be sent: 11 if one is under way, then 12 if there is no place for it
+abbrev pub sending_answer : ℕ → List MessageNumbers → Result (Unit {0}) ℕ
+sending_answer number messages =
+    (if is_under_way number messages then Err 11
+    else (if nat_le most_under_way (length messages) then Err 12 else Ok tt))
+
+-- the messages after it, in the order in which they were sent; a refused one changes nothing
+abbrev pub after_sending : MessageNumbers → List MessageNumbers → List MessageNumbers
+after_sending m messages = (if is_ok (sending_answer m.number messages) then messages ++ m ∷ [] else messages)

@@ -1,0 +1,91 @@
+// The messages under way.
+ghost use Rattle.std.specs.Prelude.{◌≡◌, [], length, map};
+ghost use Rattle.std.specs.Option.{option_map};
+ghost use Rattle.messages.specs.Messages.{after_sending, message_numbers, message_of, sending_answer, without};
+ghost use Rattle.refusals.specs.Refusals.{shown};
+ghost use Rattle.store.specs.Page.{after_cut, cut_answer};
+
+use crate::message::Message;
+use arrayvec::ArrayVec;
+use refusals::refusal::Refusal;
+use std::marker::Model;
+
+// So many messages are under way at most.
+pub const MOST_UNDER_WAY: usize = 64;
+
+// In the order in which they were sent; the place of one that is used up is free again.
+#[derive(Drop)]
+pub struct Messages {
+    under_way: ArrayVec<Message, MOST_UNDER_WAY>,
+}
+
+impl Model for Messages {
+    ghost use Rattle.std.specs.Prelude.{List, map};
+    ghost use Rattle.messages.specs.Messages.{MessageNumbers, message_numbers};
+
+    ghost Value = { List MessageNumbers };
+
+    ghost view = { λ m. map message_numbers m.under_way.items };
+}
+
+impl Messages {
+    pub fn new() -> Messages
+        ensures { result ≡ [] }
+    {
+        Messages {
+            under_way: ArrayVec::new(),
+        }
+    }
+
+    // The message of this number, or none.
+    pub fn find(&self, number: u32) -> Option<Message>
+        ensures { option_map message_numbers result ≡ message_of number self.now }
+    {
+        self.under_way
+            .iter()
+            .find(|message| message.number == number)
+            .copied()
+    }
+
+    // Whether a message of this number may be sent: refused with 11 where one is under way, then with 12 where 64 are.
+    pub fn check_send(&self, number: u32) -> Result<(), Refusal>
+        ensures { shown result ≡ sending_answer number self.now }
+    {
+        if self.find(number).is_some() {
+            return Err(Refusal::NumberUnderWay);
+        }
+        if self.under_way.is_full() {
+            return Err(Refusal::TooManyUnderWay);
+        }
+        Ok(())
+    }
+
+    // The message is under way, behind all others; refused as `check_send` does.
+    pub fn send(&mut self, message: Message) -> Result<(), Refusal>
+        ensures answer { shown result ≡ sending_answer message.number self.old }
+        ensures change { self.new ≡ after_sending (message_numbers message) self.old }
+    {
+        self.check_send(message.number)?;
+        self.under_way.push(message);
+        Ok(())
+    }
+
+    // The message of this number is used up. The others stay, in their order.
+    pub fn remove(&mut self, number: u32)
+        ensures { self.new ≡ without number self.old }
+    {
+        self.under_way.retain(|message| message.number != number);
+    }
+
+    // Writes the messages into the rows, each once, and answers how many. Refused with 19 where there are fewer places, and then
+    // none changes; the places behind the last row stay.
+    pub fn list(&self, rows: &mut [Message]) -> Result<usize, Refusal>
+        ensures answer { shown result ≡ cut_answer self.now (length rows.old) }
+        ensures rows { map message_numbers rows.new ≡ after_cut self.now (map message_numbers rows.old) }
+    {
+        let count = self.under_way.len();
+        let listed = rows.get_mut(..count).ok_or(Refusal::NoRoom)?;
+        listed.copy_from_slice(&self.under_way);
+        Ok(count)
+    }
+}

@@ -1,0 +1,79 @@
+-- What each call of an open recorder changes, by its answer: a refused one nothing at all.
+use Rattle.std.specs.Prelude.{◌≡◌, ℕ, ℤ, if◌then◌else◌, List, [], ◌∷◌, ◌++◌, length, nat_le, Ok, Err, Result}
+use Rattle.std.specs.declared.cmp.Ordering.{Ordering}
+use Rattle.clocks.specs.Bank.{Meaning, Taken, look_answer}
+use Rattle.clocks.specs.declared.sample.Sample.{Sample}
+use Rattle.messages.specs.Messages.{MessageNumbers, without}
+use Rattle.stamps.specs.Rules.{StampedNumbers}
+use Rattle.stamps.specs.Stamp.{Timestamp, code_of}
+use Rattle.store.specs.Contents.{Contents}
+use Rattle.store.specs.Page.{after_cut, page}
+use Rattle.store.specs.Versions.{with_version}
+use Rattle.store.specs.declared.version.Version.{Version}
+use Rattle.recorder.specs.Stamps.{with_last}
+use Rattle.recorder.specs.State.{State, is_settled}
+
+-- An event that answered so took its reading from the bank; a refused one left the bank alone. (`beside` is what else a take of
+-- this kind of bank does.)
+abbrev pub TookReading : {B : Type 0} (meaning : B → Meaning) (beside : Sample → Result ℕ ℕ → B → B → Type 0)
+    → Sample → Result StampedNumbers ℕ → B → B → Type 0
+TookReading meaning beside sample (Ok event) old new =
+    let reading : Result ℕ ℕ = look_answer (meaning old) sample.node sample.raw.0 in
+    Taken reading sample.node (meaning old) (meaning new) × beside sample reading old new
+TookReading meaning beside sample (Err number) old new = new ≡ old
+
+module _ {B K : Type 0} (s : State B K) where
+  -- an event of this node got this stamp: then the bank is this one, and so are the messages under way and the contents
+  abbrev pub with_event : ℕ → Timestamp → B → List MessageNumbers → Contents K → State B K
+  with_event node stamp bank messages contents = record {
+    settings = s.settings;
+    bank = bank;
+    last = with_last node stamp s.last;
+    messages = messages;
+    contents = contents;
+  }
+
+  -- after a note; the bank is then this one
+  abbrev pub after_note : Sample → Result StampedNumbers ℕ → B → State B K
+  after_note sample (Ok event) bank = with_event sample.node event.stamp bank s.messages s.contents
+  after_note sample (Err refusal) bank = s
+
+  -- after a send: the message is under way, behind all others
+  abbrev pub after_send : Sample → ℕ → ℕ → Result StampedNumbers ℕ → B → State B K
+  after_send sample to number (Ok event) bank =
+      let m : MessageNumbers = record { number = number; to = to; stamp = event.stamp } in
+      with_event sample.node event.stamp bank (s.messages ++ m ∷ []) s.contents
+  after_send sample to number (Err refusal) bank = s
+
+  -- after a receipt: the message is used up
+  abbrev pub after_receipt : Sample → ℕ → Result StampedNumbers ℕ → B → State B K
+  after_receipt sample number (Ok event) bank =
+      with_event sample.node event.stamp bank (without number s.messages) s.contents
+  after_receipt sample number (Err refusal) bank = s
+
+  -- after a loss: the message is used up
+  abbrev pub after_loss : ℕ → Result (Unit {0}) ℕ → State B K
+  after_loss number (Ok _) = record {
+    settings = s.settings;
+    bank = s.bank;
+    last = s.last;
+    messages = without number s.messages;
+    contents = s.contents;
+  }
+  after_loss number (Err refusal) = s
+
+  module _ (order : K → K → Ordering) where
+    -- with one version more
+    abbrev pub with_put : Version K → Contents K
+    with_put v = record { versions = with_version order v s.contents.versions; capacity = s.contents.capacity }
+
+    -- after a put: the store has its version too, with the event's stamp
+    abbrev pub after_put : Sample → K → ℤ → Result StampedNumbers ℕ → B → State B K
+    after_put sample key value (Ok event) bank =
+        let v : Version K = record { key = key; stamp = code_of event.stamp; node = sample.node; value = value } in
+        with_event sample.node event.stamp bank s.messages (with_put v)
+    after_put sample key value (Err refusal) bank = s
+
+    -- the caller's rows after a cut: a refused one leaves them
+    abbrev pub after_page : ℕ → List (Version K) → List (Version K)
+    after_page code rows = (if is_settled s code then after_cut (page order s.contents.versions code) rows else rows)

@@ -1,0 +1,5 @@
+pub mod Settings
+pub mod Stamps
+pub mod State
+pub mod Answers
+pub mod Changes

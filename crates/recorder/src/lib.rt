@@ -1,0 +1,8 @@
+// The recorder: what the boxes wrote goes in event by event, and the plant as it stood at a stamp comes out.
+#![tactic(auto)]
+
+pub mod empty_store;
+mod last_stamps;
+pub mod open;
+pub mod settings;
+mod stamper;

@@ -1,0 +1,45 @@
+-- Whole runs, and their law.
+use Rattle.std.specs.Prelude.{◌≡◌, ℕ, Bool, true, if◌then◌else◌, List, [], ◌∷◌, ◌++◌, map, Option}
+use Rattle.std.specs.declared.cmp.Ordering.{Ordering}
+use Rattle.std.specs.List.{filter_map}
+use Rattle.clocks.specs.Bank.{Meaning}
+use Rattle.history.specs.History.{Closed, Entry, IsHistory, Setup}
+use Rattle.history.specs.Law.{IsLawful}
+use Rattle.recorder.specs.State.{State, is_settled}
+use Rattle.replay.specs.Calls.{AnswerNumbers, question_answer}
+use Rattle.replay.specs.Runs.{IsRun, question_entry}
+use Rattle.replay.specs.declared.call.Question.{Question}
+use Rattle.replay.specs.declared.replay.Run.{Run}
+
+-- what a recorder was set up with
+abbrev pub setup_of : {B K : Type 0} → (B → Meaning) → State B K → Setup
+setup_of meaning s = record {
+  nodes = s.settings.nodes;
+  lead = s.settings.lead;
+  backstep = λ node. (meaning s.bank node).backstep;
+}
+
+module _ {B K : Type 0} (order : K → K → Ordering) (meaning : B → Meaning) where
+  -- the answer to a question behind the calls: a recorder that was closed has every stamp settled
+  abbrev pub end_answer : Bool → State B K → Question K → AnswerNumbers K
+  end_answer closes end q = question_answer order (λ stamp. (if closes then true else is_settled end stamp)) end.contents end.messages q
+
+  -- what the history is told behind the calls: the close, if there is one, and the answers to the questions
+  abbrev pub end_entries : Bool → State B K → List (Question K) → List (Entry K)
+  end_entries closes end questions =
+      (if closes then Closed ∷ [] else []) ++ filter_map (λ q. question_entry q (end_answer closes end q)) questions
+
+  -- A recorder that stood at `start` gave these answers to a run, and the run keeps the law.
+  pub record IsReplayed (start : State B K) (run : Run K) (answers : List (AnswerNumbers K)) : Type 0 where
+    -- the answers to the calls, what the history was told of them, and how the recorder stood then
+    pub during : List (AnswerNumbers K)
+    pub told : List (Entry K)
+    pub end : State B K
+    pub calls : IsRun order meaning start run.calls.items during told end
+    -- all answers: first those to the calls, then those to the questions
+    pub all : answers ≡ during ++ map (end_answer run.closes end) run.questions.items
+    -- what the run came to, which is a history, keeps the law
+    abbrev pub history : List (Entry K)
+    history = told ++ end_entries run.closes end run.questions.items
+    pub written : IsHistory order (setup_of meaning start) history
+    pub lawful : IsLawful order (setup_of meaning start) history

@@ -1,0 +1,73 @@
+-- Runs: any list of calls, one after another, and the history that they come to.
+use Rattle.std.specs.Prelude.{◌≡◌, ℕ, List, [], ◌∷◌, ◌++◌, take, Some, None, Ok, Err, Option, Result}
+use Rattle.std.specs.declared.cmp.Ordering.{Ordering}
+use Rattle.std.specs.Option.{option_to_list}
+use Rattle.std.specs.Result.{result_unwrap_or}
+use Rattle.clocks.specs.Bank.{Meaning, Taken, look_answer}
+use Rattle.clocks.specs.declared.sample.Sample.{Sample}
+use Rattle.history.specs.Events.{Event, Note, Put, Receipt, Send, What}
+use Rattle.history.specs.History.{Cut, Entered, Entry, Read}
+use Rattle.recorder.specs.Answers.{clock_answer, note_answer, put_answer, receipt_answer, send_answer}
+use Rattle.recorder.specs.State.{State, is_settled}
+use Rattle.stamps.specs.Rules.{StampedNumbers}
+use Rattle.replay.specs.Calls.{AnswerNumbers, CutAnswer, EventAnswer, LossAnswer, ReadAnswer, UnderWayAnswer, after_call, call_answer, question_answer}
+use Rattle.replay.specs.declared.call.Call.{Call}
+use Rattle.replay.specs.declared.call.Call.TheVariants as call
+use Rattle.replay.specs.declared.call.Question.{Question}
+use Rattle.replay.specs.declared.call.Question.TheVariants as question
+
+-- What the history is told of a question that answered so: a read or a cut that was not refused, and nothing else.
+abbrev pub question_entry : {K : Type 0} → Question K → AnswerNumbers K → Option (Entry K)
+question_entry (question.Read key stamp) (ReadAnswer (Ok answer)) = Some (Read key stamp answer)
+question_entry (question.Cut stamp given) (CutAnswer (Ok count) rows) = Some (Cut stamp count (take count rows))
+question_entry (question.Read key stamp) (ReadAnswer (Err refusal)) = None
+question_entry (question.Cut stamp given) (CutAnswer (Err refusal) rows) = None
+question_entry q a = None
+
+module _ {B K : Type 0} (order : K → K → Ordering) (meaning : B → Meaning) where
+  module _ (s : State B K) where
+    -- an event that answered so: its reading is the one that the bank gives at that moment
+    abbrev pub event_entry : Sample → What K → Result StampedNumbers ℕ → Option (Entry K)
+    event_entry sample what (Ok event) = Some (Entered (record {
+      node = sample.node;
+      reading = result_unwrap_or (clock_answer meaning s sample) 0;
+      stamp = event.stamp;
+      what = what;
+    }))
+    event_entry sample what (Err refusal) = None
+
+    -- what the history is told of a call
+    abbrev pub call_entry : Call K → Option (Entry K)
+    call_entry (call.Note sample) = event_entry sample Note (note_answer meaning s sample)
+    call_entry (call.Send sample to number) = event_entry sample (Send number) (send_answer meaning s sample to number)
+    call_entry (call.Receipt sample number) = event_entry sample (Receipt number) (receipt_answer meaning s sample number)
+    call_entry (call.Loss number) = None
+    call_entry (call.Put sample key value) = event_entry sample (Put key value) (put_answer meaning s sample)
+    call_entry (call.Ask q) = question_entry q (question_answer order (is_settled s) s.contents s.messages q)
+
+    -- An event that answered so took its reading from the bank, which is then this one.
+    abbrev pub TakesFor : Sample → Result StampedNumbers ℕ → B → Type 0
+    TakesFor sample (Ok event) bank = Taken (clock_answer meaning s sample) sample.node (meaning s.bank) (meaning bank)
+    TakesFor sample (Err refusal) bank = bank ≡ s.bank
+
+    -- A call takes the reading of its event, if it has one and is accepted; else the bank stays.
+    abbrev pub TakesReading : Call K → B → Type 0
+    TakesReading (call.Note sample) bank = TakesFor sample (note_answer meaning s sample) bank
+    TakesReading (call.Send sample to number) bank = TakesFor sample (send_answer meaning s sample to number) bank
+    TakesReading (call.Receipt sample number) bank = TakesFor sample (receipt_answer meaning s sample number) bank
+    TakesReading (call.Loss number) bank = bank ≡ s.bank
+    TakesReading (call.Put sample key value) bank = TakesFor sample (put_answer meaning s sample) bank
+    TakesReading (call.Ask q) bank = bank ≡ s.bank
+
+    -- One call: its answer, and the recorder then.
+    pub record IsStep (c : Call K) (a : AnswerNumbers K) (next : State B K) : Type 0 where
+      pub answer : a ≡ call_answer order meaning s c
+      pub change : next ≡ after_call order meaning s c next.bank
+      pub reading : TakesReading c next.bank
+
+  -- Any list of calls to a recorder that stands at `start`, each with its answer; the history of them; and how the recorder stands then.
+  pub data IsRun (start : State B K) : List (Call K) → List (AnswerNumbers K) → List (Entry K) → State B K → Type 0 where
+    NoCall : IsRun start [] [] [] start
+    OneMore : {calls : List (Call K)} {answers : List (AnswerNumbers K)} {history : List (Entry K)} {s next : State B K} {c : Call K} {a : AnswerNumbers K}
+        → IsRun start calls answers history s → IsStep s c a next
+        → IsRun start (calls ++ c ∷ []) (answers ++ a ∷ []) (history ++ option_to_list (call_entry s c)) next

@@ -1,0 +1,5 @@
+// Whole runs: any list of calls to a fresh recorder, and the law that every run keeps.
+#![tactic(auto)]
+
+pub mod call;
+pub mod replay;

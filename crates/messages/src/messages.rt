@@ -79,13 +79,16 @@ impl Messages {
 
     // Writes the messages into the rows, each once, and answers how many. Refused with 19 where there are fewer places, and then
     // none changes; the places behind the last row stay.
+    #[tactic(auto, using(crate::proofs::Listing::shown_rows))]
     pub fn list(&self, rows: &mut [Message]) -> Result<usize, Refusal>
         ensures answer { shown result ≡ cut_answer self.now (length rows.old) }
         ensures rows { map message_numbers rows.new ≡ after_cut self.now (map message_numbers rows.old) }
     {
         let count = self.under_way.len();
-        let listed = rows.get_mut(..count).ok_or(Refusal::NoRoom)?;
-        listed.copy_from_slice(&self.under_way);
+        if rows.len() < count {
+            return Err(Refusal::NoRoom);
+        }
+        rows[..count].copy_from_slice(&self.under_way);
         Ok(count)
     }
 }

@@ -1,5 +1,5 @@
 -- What each call of an open recorder answers: its checks in their order, and then the answer.
-use Rattle.std.specs.Prelude.{ℕ, Bool, ◌&&◌, if◌then◌else◌, ◌==◌, length, nat_le, nat_lt, Some, None, Ok, Err, Option, Result}
+use Rattle.std.specs.Prelude.{ℕ, ◌&&◌, if◌then◌else◌, ◌==◌, length, nat_le, Some, None, Ok, Err, Option, Result}
 use Rattle.std.specs.declared.cmp.Ordering.{Ordering}
 use Rattle.clocks.specs.Bank.{Meaning, look_answer}
 use Rattle.clocks.specs.declared.sample.Sample.{Sample}
@@ -8,7 +8,8 @@ use Rattle.stamps.specs.Rules.{StampedNumbers, lead_receipt_answer, own_answer}
 use Rattle.store.specs.Newest.{newest}
 use Rattle.store.specs.Page.{cut_answer, page}
 use Rattle.store.specs.declared.version.Version.{Version}
-use Rattle.recorder.specs.State.{State, is_settled}
+use Rattle.recorder.specs.Stamps.{stamp_at}
+use Rattle.recorder.specs.State.{State, is_node, is_settled}
 
 -- the rule's answer at the clock's reading; the clock's refusal comes first
 abbrev pub at_reading : (ℕ → Result StampedNumbers ℕ) → Result ℕ ℕ → Result StampedNumbers ℕ
@@ -21,21 +22,17 @@ taken_answer (Ok reading) = Ok tt
 taken_answer (Err number) = Err number
 
 module _ {B K : Type 0} (meaning : B → Meaning) (s : State B K) where
-  -- is there such a node?
-  abbrev pub is_node : ℕ → Bool
-  is_node node = nat_lt node s.settings.nodes
-
   -- the reading of the sample's node
   abbrev pub clock_answer : Sample → Result ℕ ℕ
   clock_answer sample = look_answer (meaning s.bank) sample.node sample.raw.0
 
   -- an event behind the node's last one: the clock's 8 or 9, then 10
   abbrev pub own_event : Sample → Result StampedNumbers ℕ
-  own_event sample = at_reading (own_answer (s.last sample.node)) (clock_answer sample)
+  own_event sample = at_reading (own_answer (stamp_at s.last sample.node)) (clock_answer sample)
 
   -- 7, 8 or 9, 10
   abbrev pub note_answer : Sample → Result StampedNumbers ℕ
-  note_answer sample = (if is_node sample.node then own_event sample else Err 7)
+  note_answer sample = (if is_node s sample.node then own_event sample else Err 7)
 
   -- the event, where a message may be sent
   abbrev pub if_sent : Sample → Result (Unit {0}) ℕ → Result StampedNumbers ℕ
@@ -45,25 +42,25 @@ module _ {B K : Type 0} (meaning : B → Meaning) (s : State B K) where
   -- 7 for either node, 11, 12, 8 or 9, 10
   abbrev pub send_answer : Sample → ℕ → ℕ → Result StampedNumbers ℕ
   send_answer sample to number =
-      (if is_node sample.node && is_node to then if_sent sample (sending_answer number s.messages) else Err 7)
+      (if is_node s sample.node && is_node s to then if_sent sample (sending_answer number s.messages) else Err 7)
 
   -- the event, where a message was found
   abbrev pub if_found : Sample → Option MessageNumbers → Result StampedNumbers ℕ
   if_found sample None = Err 13
   if_found sample (Some m) =
       (if m.to == sample.node
-      then at_reading (lead_receipt_answer s.settings.lead (s.last sample.node) m.stamp) (clock_answer sample)
+      then at_reading (lead_receipt_answer s.lead (stamp_at s.last sample.node) m.stamp) (clock_answer sample)
       else Err 14)
 
   -- 7, 13, 14, 8 or 9, 15, 10
   abbrev pub receipt_answer : Sample → ℕ → Result StampedNumbers ℕ
   receipt_answer sample number =
-      (if is_node sample.node then if_found sample (message_of number s.messages) else Err 7)
+      (if is_node s sample.node then if_found sample (message_of number s.messages) else Err 7)
 
   -- 7, 16, 8 or 9, 10
   abbrev pub put_answer : Sample → Result StampedNumbers ℕ
   put_answer sample =
-      (if is_node sample.node
+      (if is_node s sample.node
       then (if nat_le s.contents.capacity (length s.contents.versions) then Err 16 else own_event sample)
       else Err 7)
 

@@ -26,7 +26,7 @@ module _ {B K : Type 0} (s : State B K) where
   -- an event of this node got this stamp: then the bank is this one, and so are the messages under way and the contents
   abbrev pub with_event : ℕ → Timestamp → B → List MessageNumbers → Contents K → State B K
   with_event node stamp bank messages contents = record {
-    settings = s.settings;
+    lead = s.lead;
     bank = bank;
     last = with_last node stamp s.last;
     messages = messages;
@@ -54,7 +54,7 @@ module _ {B K : Type 0} (s : State B K) where
   -- after a loss: the message is used up
   abbrev pub after_loss : ℕ → Result (Unit {0}) ℕ → State B K
   after_loss number (Ok _) = record {
-    settings = s.settings;
+    lead = s.lead;
     bank = s.bank;
     last = s.last;
     messages = without number s.messages;

@@ -1,27 +1,20 @@
--- The stamp of each node's last event.
-use Rattle.std.specs.Prelude.{ℕ, zero, suc, Some, None, Bool, true, ◌&&◌, Option, if◌then◌else◌, ◌==◌, nat_le, slice_index_or}
-use Rattle.stamps.specs.Stamp.{Timestamp, code_of, stamp_of, zero_stamp}
-use Rattle.stamps.specs.declared.stamp.Stamp.{Stamp}
-use Rattle.recorder.specs.declared.last_stamps.LastStamps.{LastStamps}
+-- The stamps of the nodes' last events.
+use Rattle.std.specs.Prelude.{ℕ, Bool, List, map, nat_le, replicate, slice_index_or, slice_set}
+use Rattle.std.specs.List.{list_all}
+use Rattle.stamps.specs.Stamp.{Timestamp, code_of, zero_stamp}
 
--- 0.0 if there is none
-abbrev pub kept_stamp : Option Stamp → Timestamp
-kept_stamp (Some stamp) = stamp_of stamp
-kept_stamp None = zero_stamp
+-- of a node among these, 0.0 for any other
+abbrev pub stamp_at : List Timestamp → ℕ → Timestamp
+stamp_at last node = slice_index_or last node zero_stamp
 
--- the last stamp of each node
-unfoldable pub last_of : LastStamps → ℕ → Timestamp
-last_of last = λ node. kept_stamp (slice_index_or last.stamps node None)
+-- of so many nodes that have none yet
+abbrev pub no_stamps : ℕ → List Timestamp
+no_stamps nodes = replicate nodes zero_stamp
 
--- no node has a stamp yet
-abbrev pub no_stamps : ℕ → Timestamp
-no_stamps = λ node. zero_stamp
+-- the node's last stamp becomes this one
+abbrev pub with_last : ℕ → Timestamp → List Timestamp → List Timestamp
+with_last node stamp last = slice_set last node stamp
 
--- the node's last stamp is this one
-abbrev pub with_last : ℕ → Timestamp → (ℕ → Timestamp) → ℕ → Timestamp
-with_last node stamp last = λ other. (if other == node then stamp else last other)
-
--- the last stamp of none of the first nodes, so many, is below the code
-abbrev pub none_below : ℕ → (ℕ → Timestamp) → ℕ → Bool
-none_below zero last code = true
-none_below (suc n) last code = none_below n last code && nat_le code (code_of (last n))
+-- none of these stamps is below the code
+abbrev pub none_below : List Timestamp → ℕ → Bool
+none_below last code = list_all (λ stamp. nat_le code (code_of stamp)) last

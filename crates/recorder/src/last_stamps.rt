@@ -1,52 +1,76 @@
 // The stamp of each node's last event.
-ghost use Rattle.std.specs.Prelude.{◌≡◌, ◌<◌, ◌≤◌};
-ghost use Rattle.recorder.specs.Stamps.{last_of, no_stamps, none_below, with_last};
+ghost use Rattle.std.specs.Prelude.{◌≡◌, ◌<◌, ◌≤◌, length, map, nat_lt};
+ghost use Rattle.recorder.specs.Stamps.{no_stamps, none_below, stamp_at, with_last};
 ghost use Rattle.stamps.specs.Stamp.{stamp_of};
 
 use clocks::bank::NODES;
 use stamps::stamp::Stamp;
+use std::marker::Model;
 
-// None for a node that has no event yet.
+// The nodes are 0, 1, and so on: so many. A node that has no event yet has 0.0.
 #[derive(Drop)]
 pub(crate) struct LastStamps {
-    stamps: [Option<Stamp>; NODES],
+    stamps: [Stamp; NODES],
+    nodes: usize,
+}
+
+impl Model for LastStamps {
+    ghost use Rattle.std.specs.Prelude.{◌≡◌, ◌≤◌, List, length, map, take};
+    ghost use Rattle.stamps.specs.Stamp.{Timestamp, stamp_of};
+
+    ghost Value = { List Timestamp };
+
+    ghost view = { λ last. map stamp_of (take last.nodes last.stamps) };
+
+    ghost invariant = { λ last. (last.nodes ≤ 16) × (length last.stamps ≡ 16) };
 }
 
 impl LastStamps {
-    #[tactic(auto, unfolding(crate::specs::Stamps::last_of))]
-    pub(crate) fn new() -> LastStamps
-        ensures { last_of result ≡ no_stamps }
+    // Of so many nodes.
+    pub(crate) fn new(nodes: u8) -> LastStamps
+        requires { nodes ≤ 16 }
+        ensures { result ≡ no_stamps nodes }
     {
         LastStamps {
-            stamps: [None; NODES],
+            stamps: [Stamp::zero(); NODES],
+            nodes: usize::from(nodes),
         }
     }
 
-    // 0.0 for a node that has no event yet.
-    #[tactic(auto, unfolding(crate::specs::Stamps::last_of))]
-    pub(crate) fn of(&self, node: u8) -> Stamp
-        ensures { stamp_of result ≡ last_of self.now node }
+    fn held(&self) -> &[Stamp]
+        ensures { map stamp_of result.now ≡ self.now }
     {
-        self.stamps
+        &self.stamps[..self.nodes]
+    }
+
+    pub(crate) fn has(&self, node: u8) -> bool
+        ensures { result ≡ nat_lt node (length self.now) }
+    {
+        usize::from(node) < self.nodes
+    }
+
+    // 0.0 for a node that has no event yet, or is none of these.
+    pub(crate) fn of(&self, node: u8) -> Stamp
+        ensures { stamp_of result ≡ stamp_at self.now node }
+    {
+        self.held()
             .get(usize::from(node))
             .copied()
-            .flatten()
             .unwrap_or(Stamp::zero())
     }
 
     // The node's last stamp becomes this one.
-    #[tactic(auto, unfolding(crate::specs::Stamps::last_of))]
     pub(crate) fn set(&mut self, node: u8, stamp: Stamp)
-        requires { node < 16 }
-        ensures { last_of self.new ≡ with_last node (stamp_of stamp) (last_of self.old) }
+        requires { node < length self.old }
+        ensures { self.new ≡ with_last node (stamp_of stamp) self.old }
     {
-        self.stamps[usize::from(node)] = Some(stamp);
+        self.stamps[usize::from(node)] = stamp;
     }
 
-    // Whether the last stamp of none of the nodes, so many, is below the code.
-    pub(crate) fn all_reach(&self, nodes: u8, code: u64) -> bool
-        ensures { result ≡ none_below nodes (last_of self.now) code }
+    // Whether none of the stamps is below the code.
+    pub(crate) fn none_below(&self, code: u64) -> bool
+        ensures { result ≡ none_below self.now code }
     {
-        (0..nodes).all(|node| self.of(node).code() >= code)
+        self.held().iter().all(|stamp| stamp.code() >= code)
     }
 }

@@ -1,10 +1,10 @@
 // The open recorder.
 ghost use Rattle.std.specs.Prelude.{◌≡◌, length, if◌then◌else◌, Ok, Err};
 ghost use Rattle.messages.specs.Messages.{message_numbers};
-ghost use Rattle.recorder.specs.Answers.{is_node, loss_answer, note_answer, own_event, page_answer, put_answer, read_answer, receipt_answer, send_answer};
+ghost use Rattle.recorder.specs.Answers.{loss_answer, note_answer, own_event, page_answer, put_answer, read_answer, receipt_answer, send_answer};
 ghost use Rattle.recorder.specs.Changes.{TookReading, after_loss, after_note, after_page, after_put, after_receipt, after_send};
 ghost use Rattle.recorder.specs.Settings.{setting_numbers};
-ghost use Rattle.recorder.specs.State.{closed_state, fresh_state, is_settled};
+ghost use Rattle.recorder.specs.State.{closed_state, fresh_state, is_node, is_settled};
 ghost use Rattle.refusals.specs.Refusals.{result_map, shown};
 ghost use Rattle.stamps.specs.Rules.{stamped_numbers};
 ghost use Rattle.store.specs.Page.{after_cut, cut_answer};
@@ -18,6 +18,7 @@ use keys::kind::KeyKind;
 use messages::message::Message;
 use messages::messages::Messages;
 use refusals::refusal::Refusal;
+use stamps::lead::Lead;
 use stamps::stamped::Stamped;
 use std::marker::{Model, PhantomData};
 use store::version::Version;
@@ -26,7 +27,7 @@ use store::version_store::VersionStore;
 // A recorder that is fed.
 #[derive(Drop)]
 pub struct Open<B: ClockBank, K: KeyKind, S: VersionStore<K>> {
-    settings: Settings,
+    lead: Lead,
     stamper: Stamper<B>,
     messages: Messages,
     store: S,
@@ -34,21 +35,20 @@ pub struct Open<B: ClockBank, K: KeyKind, S: VersionStore<K>> {
 }
 
 impl<B: ClockBank, K: KeyKind, S: VersionStore<K>> Model for Open<B, K, S> {
-    ghost use Rattle.recorder.specs.Settings.{setting_numbers};
-    ghost use Rattle.recorder.specs.Stamps.{last_of};
     ghost use Rattle.recorder.specs.State.{IsBehind, State};
+    ghost use Rattle.stamps.specs.Lead.{lead_of};
 
     ghost Value = { State B K };
 
-    ghost view = { λ open. record {
-        settings = setting_numbers open.settings;
-        bank = open.stamper.bank;
-        last = last_of open.stamper.last;
-        messages = open.messages;
-        contents = S.contents open.store;
+    ghost view = { λ recorder. record {
+        lead = lead_of recorder.lead;
+        bank = recorder.stamper.bank;
+        last = recorder.stamper.last;
+        messages = recorder.messages;
+        contents = S.contents recorder.store;
     } };
 
-    ghost invariant = { λ open. IsBehind (last_of open.stamper.last) (S.contents open.store) };
+    ghost invariant = { λ recorder. IsBehind recorder.stamper.last (S.contents recorder.store) };
 }
 
 impl<B: ClockBank, K: KeyKind, S: VersionStore<K>> Open<B, K, S> {
@@ -57,8 +57,8 @@ impl<B: ClockBank, K: KeyKind, S: VersionStore<K>> Open<B, K, S> {
         ensures { result ≡ fresh_state (setting_numbers settings) bank store }
     {
         Open {
-            settings,
-            stamper: Stamper::new(bank),
+            lead: settings.lead(),
+            stamper: Stamper::new(bank, settings.nodes()),
             messages: Messages::new(),
             store: store.store,
             keys: PhantomData,
@@ -66,9 +66,9 @@ impl<B: ClockBank, K: KeyKind, S: VersionStore<K>> Open<B, K, S> {
     }
 
     fn check_node(&self, node: u8) -> Result<(), Refusal>
-        ensures { shown result ≡ (if is_node B.meaning self.now node then Ok tt else Err 7) }
+        ensures { shown result ≡ (if is_node self.now node then Ok tt else Err 7) }
     {
-        if node < self.settings.nodes() {
+        if self.stamper.has(node) {
             Ok(())
         } else {
             Err(Refusal::NoSuchNode)

@@ -1,0 +1,9 @@
+use Rattle.std.proofs.Common.{ap, sym, ◌∙◌, ◌≡◌, map, replicate, take}
+use Rattle.std.proofs.lemmas.List.{take-replicate}
+use Rattle.stamps.specs.Stamp.{stamp_of}
+use Rattle.recorder.proofs.Held.{map_replicate}
+use Rattle.recorder.proofs.last_stamps.LastStamps.new.Goals as goal
+
+pub returns : goal.returns
+returns c =
+    rw (c.from.ensures) (ap (map stamp_of) (take-replicate c.args.nodes 16 c.zero.result c.requires) ∙ map_replicate stamp_of c.args.nodes c.zero.result ∙ ap (replicate c.args.nodes) c.zero.ensures)

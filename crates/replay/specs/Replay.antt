@@ -1,5 +1,5 @@
 -- Whole runs, and their law.
-use Rattle.std.specs.Prelude.{◌≡◌, ℕ, Bool, true, if◌then◌else◌, List, [], ◌∷◌, ◌++◌, map, Option}
+use Rattle.std.specs.Prelude.{◌≡◌, ℕ, Bool, true, if◌then◌else◌, List, [], ◌∷◌, ◌++◌, length, map}
 use Rattle.std.specs.declared.cmp.Ordering.{Ordering}
 use Rattle.std.specs.List.{filter_map}
 use Rattle.clocks.specs.Bank.{Meaning}
@@ -14,8 +14,8 @@ use Rattle.replay.specs.declared.replay.Run.{Run}
 -- what a recorder was set up with
 abbrev pub setup_of : {B K : Type 0} → (B → Meaning) → State B K → Setup
 setup_of meaning s = record {
-  nodes = s.settings.nodes;
-  lead = s.settings.lead;
+  nodes = length s.last;
+  lead = s.lead;
   backstep = λ node. (meaning s.bank node).backstep;
 }
 
@@ -29,6 +29,10 @@ module _ {B K : Type 0} (order : K → K → Ordering) (meaning : B → Meaning)
   end_entries closes end questions =
       (if closes then Closed ∷ [] else []) ++ filter_map (λ q. question_entry q (end_answer closes end q)) questions
 
+  -- what a run came to: what the history was told of its calls, and what it is told behind them
+  abbrev pub whole_history : Run K → List (Entry K) → State B K → List (Entry K)
+  whole_history run told end = told ++ end_entries run.closes end run.questions.items
+
   -- A recorder that stood at `start` gave these answers to a run, and the run keeps the law.
   pub record IsReplayed (start : State B K) (run : Run K) (answers : List (AnswerNumbers K)) : Type 0 where
     -- the answers to the calls, what the history was told of them, and how the recorder stood then
@@ -38,8 +42,6 @@ module _ {B K : Type 0} (order : K → K → Ordering) (meaning : B → Meaning)
     pub calls : IsRun order meaning start run.calls.items during told end
     -- all answers: first those to the calls, then those to the questions
     pub all : answers ≡ during ++ map (end_answer run.closes end) run.questions.items
-    -- what the run came to, which is a history, keeps the law
-    abbrev pub history : List (Entry K)
-    history = told ++ end_entries run.closes end run.questions.items
-    pub written : IsHistory order (setup_of meaning start) history
-    pub lawful : IsLawful order (setup_of meaning start) history
+    -- what the run came to is a history, and keeps the law
+    pub written : IsHistory order (setup_of meaning start) (whole_history run told end)
+    pub lawful : IsLawful order (setup_of meaning start) (whole_history run told end)

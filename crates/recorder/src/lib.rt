@@ -1,6 +1,7 @@
 // The recorder: what the boxes wrote goes in event by event, and the plant as it stood at a stamp comes out.
 #![tactic(auto)]
 
+pub mod closed;
 pub mod empty_store;
 mod last_stamps;
 pub mod open;

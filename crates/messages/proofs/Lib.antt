@@ -1,3 +1,4 @@
+pub mod Distinct
 pub mod Listing
-pub mod Seen
+mod Seen
 pub mod Sending

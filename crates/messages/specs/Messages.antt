@@ -1,5 +1,5 @@
 -- Messages under way, and what the calls on them answer and change.
-use Rattle.std.specs.Prelude.{ℕ, Bool, not, if◌then◌else◌, ◌==◌, List, [], ◌∷◌, ◌++◌, length, nat_le, Ok, Err, Option, Result, is_ok}
+use Rattle.std.specs.Prelude.{◌≡◌, ℕ, ⊤, Bool, false, not, if◌then◌else◌, ◌==◌, List, [], ◌∷◌, ◌++◌, length, nat_le, Ok, Err, Option, Result, is_ok}
 use Rattle.std.specs.List.{filter, find, list_any}
 use Rattle.stamps.specs.Stamp.{Timestamp, stamp_of}
 use Rattle.messages.specs.declared.message.Message.{Message}
@@ -30,6 +30,11 @@ message_of number messages = find (has_number number) messages
 -- the messages of all other numbers
 abbrev pub without : ℕ → List MessageNumbers → List MessageNumbers
 without number messages = filter (λ m. not (has_number number m)) messages
+
+-- no number is under way twice: behind each message there is none of its number
+abbrev pub AreDistinct : List MessageNumbers → Type 0
+AreDistinct [] = ⊤
+AreDistinct (m ∷ messages) = (is_under_way m.number messages ≡ false) × AreDistinct messages
 
 -- so many messages are under way at most
 abbrev pub most_under_way : ℕ

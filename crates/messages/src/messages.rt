@@ -1,7 +1,7 @@
 // The messages under way.
 ghost use Rattle.std.specs.Prelude.{◌≡◌, [], length, map};
-ghost use Rattle.std.specs.Option.{option_map};
-ghost use Rattle.messages.specs.Messages.{after_sending, message_numbers, message_of, sending_answer, without};
+ghost use Rattle.std.specs.Option.{option_copied, option_map};
+ghost use Rattle.messages.specs.Messages.{AreDistinct, after_sending, message_numbers, message_of, sending_answer, without};
 ghost use Rattle.refusals.specs.Refusals.{shown};
 ghost use Rattle.store.specs.Page.{after_cut, cut_answer};
 
@@ -21,11 +21,13 @@ pub struct Messages {
 
 impl Model for Messages {
     ghost use Rattle.std.specs.Prelude.{List, map};
-    ghost use Rattle.messages.specs.Messages.{MessageNumbers, message_numbers};
+    ghost use Rattle.messages.specs.Messages.{AreDistinct, MessageNumbers, message_numbers};
 
     ghost Value = { List MessageNumbers };
 
     ghost view = { λ m. map message_numbers m.under_way.items };
+
+    ghost invariant = { λ m. AreDistinct (map message_numbers m.under_way.items) };
 }
 
 impl Messages {
@@ -41,13 +43,11 @@ impl Messages {
     pub fn find(&self, number: u32) -> Option<Message>
         ensures { option_map message_numbers result ≡ message_of number self.now }
     {
-        self.under_way
-            .iter()
-            .find(|message| message.number == number)
-            .copied()
+        first_of(&self.under_way, number).copied()
     }
 
     // Whether a message of this number may be sent: refused with 11 where one is under way, then with 12 where 64 are.
+    #[tactic(auto, using(crate::proofs::Sending::found_if_under_way, crate::proofs::Sending::full_if_most))]
     pub fn check_send(&self, number: u32) -> Result<(), Refusal>
         ensures { shown result ≡ sending_answer number self.now }
     {
@@ -61,6 +61,7 @@ impl Messages {
     }
 
     // The message is under way, behind all others; refused as `check_send` does.
+    #[tactic(auto, using(crate::proofs::Distinct::distinct_after_sending))]
     pub fn send(&mut self, message: Message) -> Result<(), Refusal>
         ensures answer { shown result ≡ sending_answer message.number self.old }
         ensures change { self.new ≡ after_sending (message_numbers message) self.old }
@@ -71,10 +72,11 @@ impl Messages {
     }
 
     // The message of this number is used up. The others stay, in their order.
+    #[tactic(auto, using(crate::proofs::Distinct::distinct_without))]
     pub fn remove(&mut self, number: u32)
         ensures { self.new ≡ without number self.old }
     {
-        self.under_way.retain(|message| message.number != number);
+        keep_others(&mut self.under_way, number);
     }
 
     // Writes the messages into the rows, each once, and answers how many. Refused with 19 where there are fewer places, and then
@@ -83,6 +85,7 @@ impl Messages {
     pub fn list(&self, rows: &mut [Message]) -> Result<usize, Refusal>
         ensures answer { shown result ≡ cut_answer self.now (length rows.old) }
         ensures rows { map message_numbers rows.new ≡ after_cut self.now (map message_numbers rows.old) }
+        ensures distinct { AreDistinct self.now }
     {
         let count = self.under_way.len();
         if rows.len() < count {
@@ -91,4 +94,18 @@ impl Messages {
         rows[..count].copy_from_slice(&self.under_way);
         Ok(count)
     }
+}
+
+// The first of the messages that has this number.
+fn first_of(messages: &[Message], number: u32) -> Option<&Message>
+    ensures { option_map message_numbers (option_copied result) ≡ message_of number (map message_numbers messages.now) }
+{
+    messages.iter().find(|message| message.number == number)
+}
+
+// Keeps those of all other numbers, in their order.
+fn keep_others(messages: &mut ArrayVec<Message, MOST_UNDER_WAY>, number: u32)
+    ensures { map message_numbers messages.new.items ≡ without number (map message_numbers messages.old.items) }
+{
+    messages.retain(|message| message.number != number);
 }

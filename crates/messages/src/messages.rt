@@ -1,7 +1,7 @@
 // The messages under way.
-ghost use Rattle.std.specs.Prelude.{◌≡◌, [], length, map};
+ghost use Rattle.std.specs.Prelude.{◌≡◌, [], is_some, length, map};
 ghost use Rattle.std.specs.Option.{option_copied, option_map};
-ghost use Rattle.messages.specs.Messages.{AreDistinct, after_sending, message_numbers, message_of, sending_answer, without};
+ghost use Rattle.messages.specs.Messages.{AreDistinct, after_sending, is_under_way, message_numbers, message_of, sending_answer, without};
 ghost use Rattle.refusals.specs.Refusals.{shown};
 ghost use Rattle.store.specs.Page.{after_cut, cut_answer};
 
@@ -40,8 +40,10 @@ impl Messages {
     }
 
     // The message of this number, or none.
+    #[tactic(auto, using(crate::proofs::Sending::found_if_under_way))]
     pub fn find(&self, number: u32) -> Option<Message>
-        ensures { option_map message_numbers result ≡ message_of number self.now }
+        ensures message { option_map message_numbers result ≡ message_of number self.now }
+        ensures under_way { is_some result ≡ is_under_way number self.now }
     {
         first_of(&self.under_way, number).copied()
     }

@@ -1,3 +1,2 @@
 mod Held
-mod Later
 mod Behind

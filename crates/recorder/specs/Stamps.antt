@@ -1,5 +1,5 @@
 -- The stamps of the nodes' last events.
-use Rattle.std.specs.Prelude.{ℕ, Bool, List, map, nat_le, replicate, slice_index_or, slice_set}
+use Rattle.std.specs.Prelude.{ℕ, Bool, List, nat_le, replicate, slice_index_or, slice_set}
 use Rattle.std.specs.List.{list_all}
 use Rattle.stamps.specs.Stamp.{Timestamp, code_of, zero_stamp}
 

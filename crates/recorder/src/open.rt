@@ -1,12 +1,14 @@
 // The open recorder.
-ghost use Rattle.std.specs.Prelude.{◌≡◌, length, map, if◌then◌else◌, Ok, Err};
+ghost use Rattle.std.specs.Prelude.{◌≡◌, ◌<◌, length, map, if◌then◌else◌, Ok, Err, IsOk};
 ghost use Rattle.messages.specs.Messages.{message_numbers};
-ghost use Rattle.recorder.specs.Answers.{loss_answer, note_answer, own_event, page_answer, put_answer, read_answer, receipt_answer, send_answer};
+ghost use Rattle.recorder.specs.Answers.{clock_answer, loss_answer, note_answer, own_event, page_answer, put_answer, read_answer, receipt_answer, send_answer};
 ghost use Rattle.recorder.specs.Changes.{TookReading, after_loss, after_note, after_page, after_put, after_receipt, after_send};
 ghost use Rattle.recorder.specs.Settings.{setting_numbers};
+ghost use Rattle.recorder.specs.Stamps.{stamp_at};
 ghost use Rattle.recorder.specs.State.{closed_state, fresh_state, is_node, is_settled};
 ghost use Rattle.refusals.specs.Refusals.{result_map, shown};
 ghost use Rattle.stamps.specs.Rules.{stamped_numbers};
+ghost use Rattle.stamps.specs.Stamp.{code_of, stamp_code};
 ghost use Rattle.store.specs.Page.{after_cut, cut_answer};
 
 use crate::closed::Closed;
@@ -158,14 +160,35 @@ impl<B: ClockBank, K: KeyKind, S: VersionStore<K>> Open<B, K, S> {
             return Err(Refusal::StoreFull);
         }
         let stamped = self.stamper.own(sample)?;
+        self.enter_put(sample, stamped, key, value)?;
+        Ok(stamped)
+    }
+
+    // A put gets this stamp: the store gains its version, which is never there yet, and the event is entered. Nothing refuses it.
+    fn enter_put(
+        &mut self,
+        sample: Sample,
+        stamped: Stamped,
+        key: K,
+        value: i32,
+    ) -> Result<(), Refusal>
+        requires node { sample.node < length self.old.last }
+        requires later { code_of (stamp_at self.old.last sample.node) < stamp_code stamped.stamp }
+        requires room { length self.old.contents.versions < self.old.contents.capacity }
+        requires clock { IsOk (clock_answer B.meaning self.old sample) }
+        ensures answer { IsOk result }
+        ensures change { self.new ≡ after_put self.old K.cmp sample key value
+            (Ok (stamped_numbers stamped)) self.new.bank }
+        ensures reading { TookReading B.meaning B.beside sample
+            (Ok (stamped_numbers stamped)) self.old.bank self.new.bank }
+    {
         self.store.add(&Version {
             key,
             stamp: stamped.stamp.code(),
             node: sample.node,
             value,
         })?;
-        self.stamper.enter(sample, stamped)?;
-        Ok(stamped)
+        self.stamper.enter(sample, stamped)
     }
 
     // The version of the key with the largest stamp not above this one, the higher node among equal stamps. Refused with 18 where

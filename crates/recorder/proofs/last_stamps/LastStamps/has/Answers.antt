@@ -1,4 +1,4 @@
-use Rattle.std.proofs.Common.{ap, sym, ◌∙◌, length, nat_lt, refl}
+use Rattle.std.proofs.Common.{refl}
 use Rattle.stamps.specs.Stamp.{stamp_of}
 use Rattle.recorder.proofs.Held.{length_held}
 use Rattle.recorder.proofs.last_stamps.LastStamps.has.Goals as goal

@@ -1,4 +1,4 @@
-use Rattle.std.proofs.Common.{ap, sym, ◌∙◌, ◌≡◌, map, replicate, take}
+use Rattle.std.proofs.Common.{ap, ◌∙◌, map, replicate}
 use Rattle.std.proofs.lemmas.List.{take-replicate}
 use Rattle.stamps.specs.Stamp.{stamp_of}
 use Rattle.recorder.proofs.Held.{map_replicate}

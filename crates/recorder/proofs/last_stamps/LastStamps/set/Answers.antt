@@ -1,4 +1,4 @@
-use Rattle.std.proofs.Common.{ap, sym, ◌∙◌, length, ◌<◌, arith}
+use Rattle.std.proofs.Common.{ap, length, ◌<◌, arith}
 use Rattle.stamps.specs.Stamp.{stamp_of}
 use Rattle.recorder.proofs.Held.{length_held, held_set}
 use Rattle.recorder.proofs.last_stamps.LastStamps.set.Goals as goal

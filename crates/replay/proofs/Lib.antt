@@ -1,0 +1,2 @@
+pub mod Standing
+pub mod Asking

@@ -63,7 +63,7 @@ module _ {B K : Type 0} (order : K → K → Ordering) (total : IsTotalOrder ord
   read_told key stamp false is = nothing
   read_told key stamp true is =
       let entry : Entry K = Read key stamp (newest order s.contents.versions key stamp) in
-      told order meaning setup before entry refl (settled_by closed before stamp is, newest_is key stamp) (still_tells order meaning setup closed history entry (λ is. absurd (cc is)))
+      told order meaning setup before entry refl (settled_by closed before stamp is, newest_is key stamp) (still_tells closed history entry (λ is. absurd (cc is)))
 
   cut_told : (stamp : ℕ) (rows : Vec (Version K) Global) (settled fits : Bool) → (if closed then true else is_settled s stamp) ≡ settled
       → nat_le (length (page order s.contents.versions stamp)) (length rows.items) ≡ fits
@@ -78,7 +78,7 @@ module _ {B K : Type 0} (order : K → K → Ordering) (total : IsTotalOrder ord
       let all = page order s.contents.versions stamp in
       let entry : Entry K = Cut stamp (length all) all in
       rw (take-append_seam all (drop (length all) rows.items))
-      (told order meaning setup before entry refl (settled_by closed before stamp is, page_of stamp, refl) (still_tells order meaning setup closed history entry (λ is. absurd (cc is))))
+      (told order meaning setup before entry refl (settled_by closed before stamp is, page_of stamp, refl) (still_tells closed history entry (λ is. absurd (cc is))))
 
   pub asked : (q : Question K) → BehindAnswer (option_to_list (question_entry q (end_answer order meaning closed s q)))
   asked (question.Read key stamp) = read_told key stamp _ refl

@@ -1,2 +1,3 @@
 pub mod Standing
 pub mod Asking
+pub mod Steps

@@ -78,6 +78,31 @@ module _ {K : Type 0} where
     pub recorded_push : (order : K → K → Ordering) → recorded order (puts (events ++ e ∷ [])) ≡ recorded_onto order (recorded order (puts events)) (puts (e ∷ []))
     recorded_push order = ap (recorded order) (puts-append events (e ∷ [])) ∙ fold-append _ [] (puts events) (puts (e ∷ []))
 
+  -- whether the recorder is closed, the history says
+  abbrev pub TellsClose : Bool → List (Entry K) → Type 0
+  TellsClose true history = IsIn Closed history
+  TellsClose false history = IsIn Closed history → ⊥
+
+  -- an entry that is no close leaves it so
+  pub still_tells : (closed : Bool) (history : List (Entry K)) (entry : Entry K) → entry ≢ Closed → TellsClose closed history → TellsClose closed (history ++ entry ∷ [])
+  still_tells true history entry other tells = in_append Closed history (entry ∷ []) (inl tells)
+  still_tells false history entry other tells =
+      λ closed. each_push (λ x. x ≢ Closed) entry history (λ x is_in is. tells (subst (λ y. IsIn y history) is is_in)) other Closed closed refl
+
+module _ {B K : Type 0} where
+  -- An event is accepted: the bank gives its reading, and is then this one.
+  pub record IsAccepted (meaning : B → Meaning) (s : State B K) (e : Event K) (bank : B) : Type 0 where
+    pub node : e.node < length s.last
+    pub raw : ℕ
+    pub clock : look_answer (meaning s.bank) e.node raw ≡ Ok e.reading
+    pub taken : Taken (Ok e.reading) e.node (meaning s.bank) (meaning bank)
+    pub counter : e.stamp.counter ≤ max_counter
+
+  -- Behind an event more there are these messages under way, and these contents.
+  pub record IsNext (order : K → K → Ordering) (s : State B K) (e : Event K) (messages : List MessageNumbers) (contents : Contents K) : Type 0 where
+    pub versions : contents.versions ≡ recorded_onto order s.contents.versions (puts (e ∷ []))
+    pub messages_sent : (m : MessageNumbers) → IsIn m messages → StaysSent s.messages e m
+
 module _ {B K : Type 0} (order : K → K → Ordering) (meaning : B → Meaning) (setup : Setup) where
   -- A recorder stands so behind these events.
   pub record Stands (events : List (Event K)) (s : State B K) : Type 0 where
@@ -88,11 +113,6 @@ module _ {B K : Type 0} (order : K → K → Ordering) (meaning : B → Meaning)
     pub last : (node : ℕ) → stamp_at s.last node ≡ last_stamp events node
     pub versions : s.contents.versions ≡ recorded order (puts events)
     pub messages : (m : MessageNumbers) → IsIn m s.messages → IsSent events m
-
-  -- whether the recorder is closed, the history says
-  abbrev pub TellsClose : Bool → List (Entry K) → Type 0
-  TellsClose true history = IsIn Closed history
-  TellsClose false history = IsIn Closed history → ⊥
 
   -- A recorder that is closed, or is not, stands so behind a history.
   pub record StandsBehind (closed : Bool) (history : List (Entry K)) (s : State B K) : Type 0 where
@@ -110,27 +130,8 @@ module _ {B K : Type 0} (order : K → K → Ordering) (meaning : B → Meaning)
     stands = rw (events_of-append history (entry ∷ []), none, append-nil (events_of history)) before.stands;
   }
 
-  -- an entry that is no close leaves it so
-  pub still_tells : (closed : Bool) (history : List (Entry K)) (entry : Entry K) → entry ≢ Closed → TellsClose closed history → TellsClose closed (history ++ entry ∷ [])
-  still_tells true history entry other tells = in_append Closed history (entry ∷ []) (inl tells)
-  still_tells false history entry other tells =
-      λ closed. each_push (λ x. x ≢ Closed) entry history (λ x is_in is. tells (subst (λ y. IsIn y history) is is_in)) other Closed closed refl
-
-  -- An event is accepted: the bank gives its reading, and is then this one.
-  pub record IsAccepted (s : State B K) (e : Event K) (bank : B) : Type 0 where
-    pub node : e.node < length s.last
-    pub raw : ℕ
-    pub clock : look_answer (meaning s.bank) e.node raw ≡ Ok e.reading
-    pub taken : Taken (Ok e.reading) e.node (meaning s.bank) (meaning bank)
-    pub counter : e.stamp.counter ≤ max_counter
-
-  -- Behind an event more there are these messages under way, and these contents.
-  pub record IsNext (s : State B K) (e : Event K) (messages : List MessageNumbers) (contents : Contents K) : Type 0 where
-    pub versions : contents.versions ≡ recorded_onto order s.contents.versions (puts (e ∷ []))
-    pub messages_sent : (m : MessageNumbers) → IsIn m messages → StaysSent s.messages e m
-
   module _ (lawful_bank : (bank : B) → IsLawful (meaning bank)) (few : setup.nodes ≤ 16) where
-    module _ {events : List (Event K)} {s : State B K} {e : Event K} {bank : B} (stands : Stands events s) (accepted : IsAccepted s e bank) where
+    module _ {events : List (Event K)} {s : State B K} {e : Event K} {bank : B} (stands : Stands events s) (accepted : IsAccepted meaning s e bank) where
       clock_is : nat_lt e.node 16 ≡ true
       clock_is = grind (arith, nat_tests, accepted.node, stands.nodes, few)
 
@@ -172,7 +173,7 @@ module _ {B K : Type 0} (order : K → K → Ordering) (meaning : B → Meaning)
         | inr other ↦ get_or-set_other s.last e.node node e.stamp zero_stamp other ∙ stands.last node ∙ sym (last_stamp-push events e node false (grind (arith, nat_tests, other)))
       ]
 
-      stands_push : {messages : List MessageNumbers} {contents : Contents K} → IsNext s e messages contents
+      stands_push : {messages : List MessageNumbers} {contents : Contents K} → IsNext order s e messages contents
           → Stands (events ++ e ∷ []) (with_event s e.node e.stamp bank messages contents)
       stands_push {messages} {contents} next = record {
         lead = stands.lead;
@@ -188,7 +189,7 @@ module _ {B K : Type 0} (order : K → K → Ordering) (meaning : B → Meaning)
 
     -- so that the recorder stands behind the history with that event
     pub entered : {history : List (Entry K)} {s : State B K} {e : Event K} {bank : B} {messages : List MessageNumbers} {contents : Contents K}
-        → StandsBehind false history s → IsAccepted s e bank → IsStamped setup.lead (events_of history) e e.what → IsNext s e messages contents
+        → StandsBehind false history s → IsAccepted meaning s e bank → IsStamped setup.lead (events_of history) e e.what → IsNext order s e messages contents
         → StandsBehind false (history ++ Entered e ∷ []) (with_event s e.node e.stamp bank messages contents)
     entered {history} {s} {e} {bank} {messages} {contents} before accepted stamped next = record {
       written = one_more (MayBeWritten order setup) Closed history (Entered e) before.written (before.tells, may_enter before.stands accepted stamped);

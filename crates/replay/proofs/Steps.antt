@@ -1,6 +1,6 @@
 -- Each call leaves its recorder standing behind what the history is told.
 use Rattle.std.proofs.Common.{◌≡◌, ◌≢◌, ℕ, ◌+◌, ◌-◌, ◌<◌, ◌≤◌, ℤ, inl, inr, Bool, ◌&&◌, true, false, cond, List, [], ◌∷◌, ◌++◌, length, Some, None, Ok, Err, Option, Result, refl, sym, ap, ◌∙◌, subst, arith}
-use Rattle.std.specs.Prelude.{if◌then◌else◌, nat_le}
+use Rattle.std.specs.Prelude.{◌==◌, if◌then◌else◌, nat_le}
 use Rattle.std.specs.Cmp.{IsTotalOrder}
 use Rattle.std.specs.declared.cmp.Ordering.{Ordering}
 use Rattle.std.specs.List.{filter, find}
@@ -162,10 +162,10 @@ module _ {B K : Type 0} (order : K → K → Ordering) (total : IsTotalOrder ord
           let found = found_in (has_number number) s.messages m is in
           let same : m.number ≡ number = grind (arith, nat_tests, found.1) in
           let sent : IsSent (events_of history) m = before.stands.messages m found.0 in
-          let to = if_ok _ _ 14 answer in
-          let read = at_the_reading _ (clock_answer meaning s sample) event to.1 in
+          let to = if_ok (m.to == sample.node) (at_reading (lead_receipt_answer s.lead (stamp_at s.last sample.node) m.stamp) (clock_answer meaning s sample)) 14 answer in
+          let read = at_the_reading (lead_receipt_answer s.lead (stamp_at s.last sample.node) m.stamp) (clock_answer meaning s sample) event to.1 in
           let e = the_event sample (Receipt number) event in
-          let near = if_err (is_too_far_ahead s.lead m.stamp.time e.reading) 15 _ read.1 in
+          let near = if_err (is_too_far_ahead s.lead m.stamp.time e.reading) 15 (event_answer (receipt_stamp (stamp_at s.last sample.node) m.stamp e.reading) e.reading) read.1 in
           let stamp = stamp_is (receipt_stamp (stamp_at s.last sample.node) m.stamp e.reading) e.reading event near.1 in
           let is_received : IsReceived setup.lead (events_of history) e number = record {
             send = sent.send;

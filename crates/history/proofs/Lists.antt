@@ -1,6 +1,9 @@
 -- What is in a list, and induction on numbers.
-use Rattle.std.proofs.Common.{◌≡◌, ℕ, zero, suc, ◌<◌, ◌⊎◌, inl, inr, List, [], ◌∷◌, ◌++◌, get_or, length, map, refl, sym, subst, arith}
-use Rattle.std.proofs.lemmas.Bool.{cases_lt}
+use Rattle.std.proofs.Common.{◌≡◌, ℕ, zero, suc, ◌<◌, ◌⊎◌, inl, inr, Bool, false, List, [], ◌∷◌, ◌++◌, get_or, length, map, refl, sym, subst, arith}
+use Rattle.std.specs.Prelude.{take}
+use Rattle.std.specs.List.{list_any}
+use Rattle.std.proofs.lemmas.Bool.{cases_lt, or_parts}
+use Rattle.std.proofs.lemmas.List.{get_or_append_left, get_or_push, length-append, take-append-le, take_at}
 use Rattle.store.specs.Newest.{IsIn}
 
 -- what is in one of two lists is in both joined
@@ -26,6 +29,22 @@ module _ {X : Type 0} (d : X) where
   placed x [] is_in = elim is_in [ ]
   placed x (y ∷ xs) (inl here) = (0, omega arith, sym here)
   placed x (y ∷ xs) (inr there) = let found = placed x xs there in (suc found.0, omega (arith, found.1), found.2)
+
+-- where none passes a test, what is in does not
+pub none_passes : {X : Type 0} (test : X → Bool) (x : X) (xs : List X) → list_any test xs ≡ false → IsIn x xs → test x ≡ false
+none_passes test x [] none is_in = elim is_in [ ]
+none_passes test x (y ∷ ys) none (inl here) = rw here (or_parts (test y) (list_any test ys) none).0
+none_passes test x (y ∷ ys) none (inr there) = none_passes test x ys (or_parts (test y) (list_any test ys) none).1 there
+
+-- Where each of a list may stand behind those before it, and x behind all, this holds with x at the end too. (d is what stands nowhere.)
+pub one_more : {X : Type 0} (May : List X → X → Type 0) (d : X) (xs : List X) (x : X) → ((j : ℕ) → j < length xs → May (take j xs) (get_or xs j d)) → May xs x
+    → (j : ℕ) → j < length (xs ++ x ∷ []) → May (take j (xs ++ x ∷ [])) (get_or (xs ++ x ∷ []) j d)
+one_more May d xs x each may j inside = elim (cases_lt j (length xs)) [
+  | inl earlier ↦ rw (take-append-le j xs (x ∷ []) (omega (arith, earlier)), get_or_append_left xs (x ∷ []) d j earlier) (each j earlier)
+  | inr last ↦
+      let is : length xs ≡ j = omega (arith, last, inside, length-append xs (x ∷ [])) in
+      rw (take_at xs (x ∷ []) j is, get_or_push xs x d j is) may
+]
 
 -- what holds of f x for each x in a list holds of each y in the list that f makes of it
 pub of_map : {X Y : Type 0} (P : Y → Type 0) (f : X → Y) (xs : List X) → ((x : X) → IsIn x xs → P (f x)) → (y : Y) → IsIn y (map f xs) → P y

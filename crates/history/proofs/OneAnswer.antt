@@ -101,7 +101,7 @@ module _ {K : Type 0} where
       rise_by e events (version_of e e.what) refl rises more
 
   module _ (order : K → K → Ordering) (total : IsTotalOrder order) (law : IsKeyOrder order) (events : List (Event K)) (rises : NodesRise events) where
-    sorted : IsSorted order (recorded order (puts events))
+    pub sorted : IsSorted order (recorded order (puts events))
     sorted = recorded_sorted order total (puts events) (puts_rise events rises)
 
     pub one_answer : (key : K) (stamp : ℕ) → (answer : Option (Version K)) × IsOnlyAnswer (puts events) key stamp answer

@@ -2,32 +2,22 @@
 use Rattle.std.proofs.Common.{◌≡◌, ◌≢◌, ℕ, suc, zero, ◌+◌, ◌-◌, ◌<◌, ◌++◌, inl, inr, Bool, ◌&&◌, false, true, List, [], ◌∷◌, drop, get_or, length, nat_eq, nat_le, nat_lt, refl, subst, ap, ◌∙◌, arith}
 use Rattle.std.specs.declared.cmp.Ordering.{Ordering}
 use Rattle.std.specs.List.{list_any}
-use Rattle.std.specs.Prelude.{take}
-use Rattle.std.proofs.lemmas.Bool.{cases_lt, or_parts}
+use Rattle.std.proofs.lemmas.Bool.{or_parts}
 use Rattle.std.proofs.lemmas.Bool.Decides.{nat_tests}
-use Rattle.std.proofs.lemmas.List.{append-nil, append_assoc, get_or-drop, get_or_append_left, get_or_push, length-append, length-drop, take-append-le, take_at}
+use Rattle.std.proofs.lemmas.List.{append-nil, append_assoc, get_or-drop, length-drop}
 use Rattle.stamps.specs.Range.{max_counter}
 use Rattle.stamps.specs.Rules.{receipt_stamp}
 use Rattle.store.specs.Newest.{IsIn}
 use Rattle.history.specs.Events.{Event, Note, Put, Receipt, Send, What, event_at, no_event}
 use Rattle.history.specs.Before.{IsLastSend}
 use Rattle.history.specs.History.{Closed, Cut, Entered, Entry, IsHistory, IsReceived, IsStamped, MayBeWritten, Read, events_of, last_stamp}
+use Rattle.history.proofs.Lists.{none_passes, one_more}
 use Rattle.history_examples.specs.Examples.{small_setup}
 
 infixr 30 ◌▹◌
 -- a proof, and the proofs for what follows
 pub ◌▹◌ : {A B : Type 0} → A → B → A × B
 a ▹ b = (a, b)
-
--- Where each of a list may stand behind those before it, and x behind all, this holds with x at the end too. (d is what stands nowhere.)
-pub one_more : {X : Type 0} (May : List X → X → Type 0) (d : X) (xs : List X) (x : X) → ((j : ℕ) → j < length xs → May (take j xs) (get_or xs j d)) → May xs x
-    → (j : ℕ) → j < length (xs ++ x ∷ []) → May (take j (xs ++ x ∷ [])) (get_or (xs ++ x ∷ []) j d)
-one_more May d xs x each may j inside = elim (cases_lt j (length xs)) [
-  | inl earlier ↦ rw (take-append-le j xs (x ∷ []) (omega (arith, earlier)), get_or_append_left xs (x ∷ []) d j earlier) (each j earlier)
-  | inr last ↦
-      let is : length xs ≡ j = omega (arith, last, inside, length-append xs (x ∷ [])) in
-      rw (take_at xs (x ∷ []) j is, get_or_push xs x d j is) may
-]
 
 module _ {K : Type 0} (order : K → K → Ordering) where
   -- the entries may be written, one behind another, behind `earlier`
@@ -45,12 +35,7 @@ module _ {K : Type 0} (order : K → K → Ordering) where
   pub by_entries : (history : List (Entry K)) → MayFollow [] history → IsHistory order small_setup history
   by_entries history may = goes_on [] history (λ j inside. absurd (omega (arith, inside))) may
 
--- where none passes a test, what is in does not
-none_passes : {X : Type 0} (test : X → Bool) (x : X) (xs : List X) → list_any test xs ≡ false → IsIn x xs → test x ≡ false
-none_passes test x [] none is_in = elim is_in [ ]
-none_passes test x (y ∷ ys) none (inl here) = rw here (or_parts (test y) (list_any test ys) none).0
-none_passes test x (y ∷ ys) none (inr there) = none_passes test x ys (or_parts (test y) (list_any test ys) none).1 there
-
+-- where none passes a test, what stands at a place does not
 none_at : {X : Type 0} (test : X → Bool) (d : X) (xs : List X) (i : ℕ) → i < length xs → list_any test xs ≡ false → test (get_or xs i d) ≡ false
 none_at test d [] i inside none = absurd (omega (arith, inside))
 none_at test d (x ∷ xs) zero inside none = (or_parts (test x) (list_any test xs) none).0

@@ -10,7 +10,8 @@ use Rattle.history.proofs.Entries.{events_of-append}
 use Rattle.history.proofs.Last.{last_stamp-push}
 use Rattle.history.proofs.Lists.{each_push}
 use Rattle.history_examples.specs.Examples.{LongIsHistory, notes, small_setup}
-use Rattle.history_examples.proofs.Entering.{kind, one_more}
+use Rattle.history_examples.proofs.Entering.{kind}
+use Rattle.history.proofs.Lists.{one_more}
 
 module _ (K : Type 0) where
   abbrev note : ℕ → Event K

@@ -6,8 +6,9 @@ use Rattle.clocks.specs.Bank.{Meaning}
 use Rattle.history.specs.History.{Closed, Entry, IsHistory, Setup}
 use Rattle.history.specs.Law.{IsLawful}
 use Rattle.recorder.specs.State.{State, is_settled}
-use Rattle.replay.specs.Calls.{AnswerNumbers, question_answer}
+use Rattle.replay.specs.Calls.{AnswerNumbers, answer_numbers, question_answer}
 use Rattle.replay.specs.Runs.{IsRun, question_entry}
+use Rattle.replay.specs.declared.call.Answer.{Answer}
 use Rattle.replay.specs.declared.call.Question.{Question}
 use Rattle.replay.specs.declared.replay.Run.{Run}
 
@@ -45,3 +46,9 @@ module _ {B K : Type 0} (order : K → K → Ordering) (meaning : B → Meaning)
     -- what the run came to is a history, and keeps the law
     pub written : IsHistory order (setup_of meaning start) (whole_history run told end)
     pub lawful : IsLawful order (setup_of meaning start) (whole_history run told end)
+
+-- A list of answers gained those to a run.
+pub record GainsAnswers {B K : Type 0} (order : K → K → Ordering) (meaning : B → Meaning) (start : State B K) (run : Run K) (before after : List (Answer K)) : Type 0 where
+  pub gained : List (Answer K)
+  pub list : after ≡ before ++ gained
+  pub replayed : IsReplayed order meaning start run (map answer_numbers gained)

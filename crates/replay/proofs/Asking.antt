@@ -1,6 +1,6 @@
 -- A question's answer may be written behind the history behind which its recorder stands.
-use Rattle.std.proofs.Common.{◌≡◌, ℕ, ◌<◌, ◌≤◌, inl, inr, Bool, true, false, List, [], ◌∷◌, ◌++◌, length, Ok, Err, Vec, Global, refl, sym, ap, ◌∙◌, subst, arith}
-use Rattle.std.specs.Prelude.{drop, if◌then◌else◌, nat_le, take}
+use Rattle.std.proofs.Common.{◌≡◌, ℕ, inl, inr, Bool, true, false, List, [], ◌++◌, length, Ok, Err, Vec, Global, refl, arith}
+use Rattle.std.specs.Prelude.{drop, if◌then◌else◌, nat_le}
 use Rattle.std.specs.Cmp.{IsTotalOrder}
 use Rattle.std.specs.declared.cmp.Ordering.{Ordering}
 use Rattle.std.specs.Option.{option_to_list}
@@ -18,7 +18,7 @@ use Rattle.store.specs.declared.version.Version.{Version}
 use Rattle.store.proofs.InWords.{newest_answers}
 use Rattle.store.proofs.PageInWords.{page_is}
 use Rattle.history.specs.Events.{puts}
-use Rattle.history.specs.History.{Closed, Cut, Entry, IsSettled, Read, Setup, events_of}
+use Rattle.history.specs.History.{Cut, Entry, IsSettled, Read, Setup, events_of}
 use Rattle.history.proofs.Entries.{are_entered}
 use Rattle.history.proofs.OneAnswer.{recorded, recorded_same, sorted}
 use Rattle.history.proofs.SameVersions.{answers_alike, pages_alike}

@@ -9,10 +9,9 @@ use Rattle.std.proofs.lemmas.List.Sums.{fold-append}
 use Rattle.clocks.specs.Bank.{IsAllowed, IsLawful, Meaning, Taken, look_answer}
 use Rattle.messages.specs.Messages.{MessageNumbers}
 use Rattle.stamps.specs.Range.{max_counter}
-use Rattle.stamps.specs.Stamp.{Timestamp, zero_stamp}
+use Rattle.stamps.specs.Stamp.{zero_stamp}
 use Rattle.store.specs.Contents.{Contents}
 use Rattle.store.specs.Newest.{IsIn}
-use Rattle.store.specs.Versions.{with_version}
 use Rattle.history.specs.Events.{Event, Send, event_at, no_event, puts}
 use Rattle.history.specs.Before.{IsLastSend}
 use Rattle.history.specs.History.{Closed, Entered, Entry, IsHistory, IsStamped, MayBeWritten, MayEnter, Setup, events_of, last_stamp}

@@ -1,5 +1,5 @@
 -- Each call leaves its recorder standing behind what the history is told.
-use Rattle.std.proofs.Common.{◌≡◌, ◌≢◌, ℕ, ◌+◌, ◌-◌, ◌<◌, ◌≤◌, ℤ, inl, inr, Bool, ◌&&◌, true, false, cond, List, [], ◌∷◌, ◌++◌, length, Some, None, Ok, Err, Option, Result, refl, sym, ap, ◌∙◌, subst, arith}
+use Rattle.std.proofs.Common.{◌≡◌, ◌≢◌, ℕ, ◌-◌, ◌≤◌, ℤ, inl, inr, Bool, true, false, cond, List, [], ◌∷◌, ◌++◌, length, Some, None, Ok, Err, Option, Result, refl, sym, subst, arith}
 use Rattle.std.specs.Prelude.{◌==◌, if◌then◌else◌, nat_le}
 use Rattle.std.specs.Cmp.{IsTotalOrder}
 use Rattle.std.specs.declared.cmp.Ordering.{Ordering}
@@ -9,21 +9,21 @@ use Rattle.std.specs.Result.{result_unwrap_or}
 use Rattle.std.proofs.lemmas.Bool.{and_parts}
 use Rattle.std.proofs.lemmas.Bool.Decides.{nat_tests}
 use Rattle.std.proofs.lemmas.List.{append-nil}
-use Rattle.clocks.specs.Bank.{IsLawful, Meaning, Taken, look_answer}
+use Rattle.clocks.specs.Bank.{IsLawful, Meaning, Taken}
 use Rattle.clocks.specs.declared.sample.Sample.{Sample}
 use Rattle.keys.specs.Order.{IsKeyOrder}
-use Rattle.messages.specs.Messages.{MessageNumbers, has_number, is_under_way, message_of, sending_answer, without}
+use Rattle.messages.specs.Messages.{MessageNumbers, has_number, is_under_way, message_of, sending_answer}
 use Rattle.stamps.specs.Lead.{is_too_far_ahead}
 use Rattle.stamps.specs.Range.{max_counter}
 use Rattle.stamps.specs.Rules.{StampedNumbers, event_answer, lead_receipt_answer, own_stamp, receipt_stamp}
 use Rattle.stamps.specs.Stamp.{Timestamp}
 use Rattle.store.specs.Contents.{Contents}
 use Rattle.store.specs.Newest.{IsIn}
-use Rattle.history.specs.Events.{Event, Note, Put, Receipt, Send, What, event_at, puts}
+use Rattle.history.specs.Events.{Event, Note, Put, Receipt, Send, What}
 use Rattle.history.specs.Before.{IsLastSend}
 use Rattle.history.specs.History.{Entered, Entry, IsReceived, IsStamped, Setup, events_of, last_stamp}
 use Rattle.history.proofs.Lists.{each_push, none_passes}
-use Rattle.recorder.specs.Answers.{at_reading, clock_answer, if_found, if_sent, loss_answer, note_answer, own_event, put_answer, receipt_answer, send_answer}
+use Rattle.recorder.specs.Answers.{at_reading, clock_answer, if_found, if_sent, note_answer, own_event, put_answer, receipt_answer, send_answer}
 use Rattle.recorder.specs.Changes.{after_loss, after_note, after_put, after_receipt, after_send, with_event}
 use Rattle.recorder.specs.Stamps.{stamp_at}
 use Rattle.recorder.specs.State.{State, is_node}
@@ -32,7 +32,7 @@ use Rattle.replay.specs.Runs.{IsRun, IsStep, NoCall, OneMore, TakesFor, TakesRea
 use Rattle.replay.specs.declared.call.Call.{Call}
 use Rattle.replay.specs.declared.call.Call.TheVariants as call
 use Rattle.replay.proofs.Asking.{asked}
-use Rattle.replay.proofs.Standing.{IsAccepted, IsNext, IsSent, Stands, StandsBehind, StaysSent, entered}
+use Rattle.replay.proofs.Standing.{IsAccepted, IsNext, IsSent, StandsBehind, StaysSent, entered}
 
 -- an answer behind a test
 module _ {X : Type 0} {x : X} where

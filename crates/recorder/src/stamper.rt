@@ -47,7 +47,7 @@ impl<B: ClockBank> Stamper<B> {
     pub(crate) fn own(&self, sample: Sample) -> Result<Stamped, Refusal>
         ensures answer { shown (result_map stamped_numbers result)
             ≡ at_reading (own_answer (stamp_at self.now.last sample.node))
-              (look_answer (B.meaning self.now.bank) sample.node sample.raw.0) }
+            (look_answer (B.meaning self.now.bank) sample.node sample.raw.0) }
         ensures later { IfOk result (λ stamped.
             code_of (stamp_at self.now.last sample.node) < stamp_code stamped.stamp) }
     {
@@ -65,7 +65,7 @@ impl<B: ClockBank> Stamper<B> {
     ) -> Result<Stamped, Refusal>
         ensures answer { shown (result_map stamped_numbers result)
             ≡ at_reading (lead_receipt_answer (lead_of lead) (stamp_at self.now.last sample.node) (stamp_of sent))
-              (look_answer (B.meaning self.now.bank) sample.node sample.raw.0) }
+            (look_answer (B.meaning self.now.bank) sample.node sample.raw.0) }
         ensures later { IfOk result (λ stamped.
             code_of (stamp_at self.now.last sample.node) < stamp_code stamped.stamp) }
     {

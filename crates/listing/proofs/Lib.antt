@@ -2,3 +2,4 @@ mod Adding
 mod Spacing
 mod Progress
 mod Splitting
+mod Machine

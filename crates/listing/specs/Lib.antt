@@ -1,3 +1,4 @@
 pub mod Adding
 pub mod Lines
 pub mod Text
+pub mod Machine

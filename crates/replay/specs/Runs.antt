@@ -3,15 +3,15 @@ use Rattle.std.specs.Prelude.{◌≡◌, ℕ, List, [], ◌∷◌, ◌++◌, map
 use Rattle.std.specs.declared.cmp.Ordering.{Ordering}
 use Rattle.std.specs.Option.{option_to_list}
 use Rattle.std.specs.Result.{result_unwrap_or}
-use Rattle.clocks.specs.Bank.{Meaning, Taken, look_answer}
+use Rattle.clocks.specs.Bank.{Meaning, Taken}
 use Rattle.clocks.specs.declared.sample.Sample.{Sample}
-use Rattle.history.specs.Events.{Event, Note, Put, Receipt, Send, What}
+use Rattle.history.specs.Events.{Note, Put, Receipt, Send, What}
 use Rattle.history.specs.History.{Cut, Entered, Entry, Read}
 use Rattle.recorder.specs.Answers.{clock_answer, note_answer, put_answer, receipt_answer, send_answer}
 use Rattle.recorder.specs.Changes.{TookReading}
 use Rattle.recorder.specs.State.{State, is_settled}
 use Rattle.stamps.specs.Rules.{StampedNumbers}
-use Rattle.replay.specs.Calls.{AnswerNumbers, answer_numbers, CutAnswer, EventAnswer, LossAnswer, ReadAnswer, UnderWayAnswer, after_call, call_answer, question_answer}
+use Rattle.replay.specs.Calls.{AnswerNumbers, answer_numbers, CutAnswer, ReadAnswer, after_call, call_answer, question_answer}
 use Rattle.replay.specs.declared.call.Answer.{Answer}
 use Rattle.replay.specs.declared.call.Call.{Call}
 use Rattle.replay.specs.declared.call.Call.TheVariants as call

@@ -23,13 +23,13 @@ use Rattle.history.specs.History.{Entered, Entry, IsHistory, IsStamped, Setup, e
 use Rattle.history.proofs.Lawful.{lawful}
 use Rattle.history.proofs.Lists.{each_push, none_passes}
 use Rattle.recorder.specs.Answers.{at_reading, clock_answer, note_answer, put_answer, receipt_answer, send_answer}
-use Rattle.recorder.specs.Changes.{after_loss, after_note, after_put, after_receipt, after_send, with_event}
+use Rattle.recorder.specs.Changes.{TookReading, after_loss, after_note, after_put, after_receipt, after_send, with_event}
 use Rattle.recorder.specs.Settings.{SettingNumbers}
 use Rattle.recorder.specs.Stamps.{stamp_at}
 use Rattle.recorder.specs.State.{State, fresh_state, is_node}
 use Rattle.replay.specs.Calls.{AnswerNumbers, after_call}
 use Rattle.replay.specs.Replay.{IsReplayed, end_answer, setup_of, whole_history}
-use Rattle.replay.specs.Runs.{IsRun, NoCall, OneMore, TakesFor, TakesReading, call_entry, event_entry}
+use Rattle.replay.specs.Runs.{IsRun, NoCall, OneMore, TookFor, call_entry, event_entry}
 use Rattle.replay.specs.declared.call.Call.{Call}
 use Rattle.replay.specs.declared.call.Call.TheVariants as call
 use Rattle.replay.specs.declared.replay.Run.{Run}
@@ -70,7 +70,7 @@ module _ {B K : Type 0} (order : K → K → Ordering) (total : IsTotalOrder ord
 
         -- an event that got the stamp of this rule at its reading
         by_rule : {messages : List MessageNumbers} {contents : Contents K} (rule : ℕ → Timestamp)
-            → TakesFor order meaning s sample (Ok answered) bank → is_node s sample.node ≡ true
+            → TookReading meaning sample (Ok answered) s.bank bank → is_node s sample.node ≡ true
             → at_reading (λ reading. event_answer (rule reading) reading) (clock_answer meaning s sample) ≡ Ok answered
             → (answered.stamp ≡ rule the_event.reading → IsStamped setup.lead (events_of history) the_event what)
             → IsNext order s the_event messages contents
@@ -90,7 +90,7 @@ module _ {B K : Type 0} (order : K → K → Ordering) (total : IsTotalOrder ord
 
       -- where it is the answer, the recorder stands so behind what the history is told
       abbrev Then : What K → Result StampedNumbers ℕ → Result StampedNumbers ℕ → State B K → Type 0
-      Then what the_answer answer next = the_answer ≡ answer → TakesFor order meaning s sample answer bank
+      Then what the_answer answer next = the_answer ≡ answer → TookReading meaning sample answer s.bank bank
           → Behind (history ++ option_to_list (event_entry order meaning s sample what answer)) next
 
       -- the rule of an event behind the node's last one
@@ -160,7 +160,7 @@ module _ {B K : Type 0} (order : K → K → Ordering) (total : IsTotalOrder ord
     })
 
     -- any call leaves it standing so
-    step : (c : Call K) (bank : B) → TakesReading order meaning s c bank
+    step : (c : Call K) (bank : B) → TookFor order meaning s c bank
         → Behind (history ++ option_to_list (call_entry order meaning s c)) (after_call order meaning s c bank)
     step (call.Note sample) bank takes = note sample bank _ refl takes
     step (call.Send sample to number) bank takes = send sample bank to number _ refl takes

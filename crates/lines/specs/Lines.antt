@@ -1,22 +1,10 @@
--- The lines of a listing, as bytes.
-use Rattle.std.specs.Prelude.{ℕ, zero, suc, ◌+◌, List, [], ◌∷◌, ◌++◌, codes, decimal}
-use Rattle.trace.specs.Contents.{Content, set_up, note, send, receipt, loss, put_point, put_tag, read_point, read_tag}
-use Rattle.listing.specs.declared.line.Word.{Word}
-use Rattle.listing.specs.declared.line.Word.TheVariants as word
-use Rattle.listing.specs.declared.line.Piece.{Piece}
-use Rattle.listing.specs.declared.line.Piece.TheVariants as piece
-
--- the word that a record goes by
-abbrev pub word_of : Content → Word
-word_of (set_up nodes key_kind lead backstep) = word.SetUp
-word_of (note node raw) = word.Note
-word_of (send node raw to message) = word.Send
-word_of (receipt node raw message) = word.Receipt
-word_of (loss message) = word.Loss
-word_of (put_point node raw key value) = word.Put
-word_of (put_tag node raw key value) = word.Put
-word_of (read_point at key) = word.Read
-word_of (read_tag at key) = word.Read
+-- Lines of words and numbers, as bytes.
+use Rattle.std.specs.Prelude.{ℕ, zero, suc, ◌+◌, ◌/◌, ◌%◌, List, [], ◌∷◌, ◌++◌, codes, decimal}
+use Rattle.std.specs.Fmt.{signed_decimal}
+use Rattle.lines.specs.declared.line.Word.{Word}
+use Rattle.lines.specs.declared.line.Word.TheVariants as word
+use Rattle.lines.specs.declared.line.Piece.{Piece}
+use Rattle.lines.specs.declared.line.Piece.TheVariants as piece
 
 abbrev pub word_text : Word → List ℕ
 word_text word.SetUp = codes "setup"
@@ -26,15 +14,24 @@ word_text word.Receipt = codes "receipt"
 word_text word.Loss = codes "loss"
 word_text word.Put = codes "put"
 word_text word.Read = codes "read"
+word_text word.Drift = codes "drift"
+word_text word.Nothing = codes "none"
+word_text word.Refused = codes "refused"
 word_text word.Bad = codes "bad"
 word_text word.At = codes "at"
 word_text word.End = codes "end"
 word_text word.TooLong = codes "too long"
 
--- a word or a number, as it is printed
+-- the stamp that has this code: time.counter
+abbrev pub stamp_text : ℕ → List ℕ
+stamp_text code = decimal (code / 65536) ++ (codes "." ++ decimal (code % 65536))
+
+-- a word, a number or a stamp, as it is printed
 abbrev pub piece_text : Piece → List ℕ
 piece_text (piece.Word w) = word_text w
 piece_text (piece.Number n) = decimal n
+piece_text (piece.Signed n) = signed_decimal n
+piece_text (piece.Stamp code) = stamp_text code
 
 -- what parts a piece from the one before: a space, and nothing before the first
 abbrev pub gap : ℕ → List ℕ

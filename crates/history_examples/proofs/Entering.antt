@@ -1,5 +1,5 @@
 -- How a list of entries that is written out is shown to be a history.
-use Rattle.std.proofs.Common.{◌≡◌, ◌≢◌, ℕ, suc, zero, ◌+◌, ◌-◌, ◌<◌, ◌++◌, inl, inr, Bool, ◌&&◌, false, true, List, [], ◌∷◌, drop, get_or, length, nat_eq, nat_le, nat_lt, refl, subst, ap, ◌∙◌, arith}
+use Rattle.std.proofs.Common.{◌≡◌, ◌≢◌, ℕ, suc, zero, ◌+◌, ◌-◌, ◌<◌, ◌++◌, Bool, ◌&&◌, false, true, List, [], ◌∷◌, drop, get_or, length, nat_eq, nat_le, nat_lt, refl, subst, ap, ◌∙◌, arith}
 use Rattle.std.specs.declared.cmp.Ordering.{Ordering}
 use Rattle.std.specs.List.{list_any}
 use Rattle.std.proofs.lemmas.Bool.{or_parts}

@@ -1,4 +1,5 @@
-pub mod Standing
-pub mod Asking
-pub mod Steps
+mod Standing
+mod Accepted
+mod Asking
+mod Steps
 pub mod Whole

@@ -9,10 +9,9 @@ use Rattle.std.proofs.lemmas.List.Sums.{fold-append}
 use Rattle.clocks.specs.Bank.{IsAllowed, IsLawful, Meaning, Taken, look_answer}
 use Rattle.messages.specs.Messages.{MessageNumbers}
 use Rattle.stamps.specs.Range.{max_counter}
-use Rattle.stamps.specs.Stamp.{Timestamp, zero_stamp}
+use Rattle.stamps.specs.Stamp.{zero_stamp}
 use Rattle.store.specs.Contents.{Contents}
 use Rattle.store.specs.Newest.{IsIn}
-use Rattle.store.specs.Versions.{with_version}
 use Rattle.history.specs.Events.{Event, Send, event_at, no_event, puts}
 use Rattle.history.specs.Before.{IsLastSend}
 use Rattle.history.specs.History.{Closed, Entered, Entry, IsHistory, IsStamped, MayBeWritten, MayEnter, Setup, events_of, last_stamp}
@@ -52,7 +51,9 @@ module _ {K : Type 0} where
             sends = rw place sent.last.sends;
             none_behind = λ k behind inside. elim (cases_lt k (length events)) [
               | inl less ↦ rw (get_or_append_left events (e ∷ []) no_event k less) (sent.last.none_behind k behind less)
-              | inr at ↦ let is : length events ≡ k = omega (arith, at, inside, more) in rw (get_or_push events e no_event k is) other
+              | inr at ↦
+                  let is : length events ≡ k = omega (arith, at, inside, more) in
+                  rw (get_or_push events e no_event k is) other
             ];
           };
           stamp = rw place sent.stamp;
@@ -69,13 +70,15 @@ module _ {K : Type 0} where
       stamp = rw (get_or_push events e no_event (length events) refl) stamp;
     }
 
-    pub sent_push : (messages : List MessageNumbers) (m : MessageNumbers) → ((m : MessageNumbers) → IsIn m messages → IsSent events m)
+    pub sent_push : (messages : List MessageNumbers) (m : MessageNumbers)
+        → ((m : MessageNumbers) → IsIn m messages → IsSent events m)
         → StaysSent messages e m → IsSent (events ++ e ∷ []) m
     sent_push messages m sent (inl old) = still_sent m old.1 (sent m old.0)
     sent_push messages m sent (inr new) = just_sent m new.0 new.1
 
     -- what is recorded with one event more
-    pub recorded_push : (order : K → K → Ordering) → recorded order (puts (events ++ e ∷ [])) ≡ recorded_onto order (recorded order (puts events)) (puts (e ∷ []))
+    pub recorded_push : (order : K → K → Ordering)
+        → recorded order (puts (events ++ e ∷ [])) ≡ recorded_onto order (recorded order (puts events)) (puts (e ∷ []))
     recorded_push order = ap (recorded order) (puts-append events (e ∷ [])) ∙ fold-append _ [] (puts events) (puts (e ∷ []))
 
   -- whether the recorder is closed, the history says
@@ -84,10 +87,12 @@ module _ {K : Type 0} where
   TellsClose false history = IsIn Closed history → ⊥
 
   -- an entry that is no close leaves it so
-  pub still_tells : (closed : Bool) (history : List (Entry K)) (entry : Entry K) → entry ≢ Closed → TellsClose closed history → TellsClose closed (history ++ entry ∷ [])
+  pub still_tells : (closed : Bool) (history : List (Entry K)) (entry : Entry K) → entry ≢ Closed → TellsClose closed history
+      → TellsClose closed (history ++ entry ∷ [])
   still_tells true history entry other tells = in_append Closed history (entry ∷ []) (inl tells)
   still_tells false history entry other tells =
-      λ closed. each_push (λ x. x ≢ Closed) entry history (λ x is_in is. tells (subst (λ y. IsIn y history) is is_in)) other Closed closed refl
+      λ closed. each_push (λ x. x ≢ Closed) entry history (λ x is_in is. tells (subst (λ y. IsIn y history) is is_in))
+          other Closed closed refl
 
 module _ {B K : Type 0} where
   -- An event is accepted: the bank gives its reading, and is then this one.
@@ -99,7 +104,8 @@ module _ {B K : Type 0} where
     pub counter : e.stamp.counter ≤ max_counter
 
   -- Behind an event more there are these messages under way, and these contents.
-  pub record IsNext (order : K → K → Ordering) (s : State B K) (e : Event K) (messages : List MessageNumbers) (contents : Contents K) : Type 0 where
+  pub record IsNext (order : K → K → Ordering) (s : State B K) (e : Event K)
+      (messages : List MessageNumbers) (contents : Contents K) : Type 0 where
     pub versions : contents.versions ≡ recorded_onto order s.contents.versions (puts (e ∷ []))
     pub messages_sent : (m : MessageNumbers) → IsIn m messages → StaysSent s.messages e m
 
@@ -123,15 +129,38 @@ module _ {B K : Type 0} (order : K → K → Ordering) (meaning : B → Meaning)
   -- so it does behind one entry more that is no event
   pub told : {closed closed_then : Bool} {history : List (Entry K)} {s : State B K} → StandsBehind closed history s
       → (entry : Entry K) → events_of (entry ∷ []) ≡ [] → MayBeWritten order setup history entry
-      → (TellsClose closed history → TellsClose closed_then (history ++ entry ∷ [])) → StandsBehind closed_then (history ++ entry ∷ []) s
+      → (TellsClose closed history → TellsClose closed_then (history ++ entry ∷ []))
+      → StandsBehind closed_then (history ++ entry ∷ []) s
   told {history = history} {s} before entry none may tells = record {
     written = one_more (MayBeWritten order setup) Closed history entry before.written may;
     tells = tells before.tells;
     stands = rw (events_of-append history (entry ∷ []), none, append-nil (events_of history)) before.stands;
   }
 
+  -- and where fewer messages are under way
+  pub fewer_messages : {closed : Bool} {history : List (Entry K)} {s : State B K} → StandsBehind closed history s
+      → (messages : List MessageNumbers) → ((m : MessageNumbers) → IsIn m messages → IsIn m s.messages)
+      → StandsBehind closed history
+          (record { lead = s.lead; bank = s.bank; last = s.last; messages = messages; contents = s.contents })
+  fewer_messages before messages fewer =
+      let stands = before.stands in
+      record {
+        written = before.written;
+        tells = before.tells;
+        stands = record {
+          lead = stands.lead;
+          nodes = stands.nodes;
+          backsteps = stands.backsteps;
+          readings = stands.readings;
+          last = stands.last;
+          versions = stands.versions;
+          messages = λ m is_in. stands.messages m (fewer m is_in);
+        };
+      }
+
   module _ (lawful_bank : (bank : B) → IsLawful (meaning bank)) (few : setup.nodes ≤ 16) where
-    module _ {events : List (Event K)} {s : State B K} {e : Event K} {bank : B} (stands : Stands events s) (accepted : IsAccepted meaning s e bank) where
+    module _ {events : List (Event K)} {s : State B K} {e : Event K} {bank : B}
+        (stands : Stands events s) (accepted : IsAccepted meaning s e bank) where
       clock_is : nat_lt e.node 16 ≡ true
       clock_is = grind (arith, nat_tests, accepted.node, stands.nodes, few)
 
@@ -169,8 +198,12 @@ module _ {B K : Type 0} (order : K → K → Ordering) (meaning : B → Meaning)
 
       last_is : (node : ℕ) → stamp_at (with_last e.node e.stamp s.last) node ≡ last_stamp (events ++ e ∷ []) node
       last_is node = elim (cases_eq node e.node) [
-        | inl same ↦ rw same (get_or-set_same s.last e.node e.stamp zero_stamp accepted.node ∙ sym (last_stamp-push events e e.node true (grind (arith, nat_tests))))
-        | inr other ↦ get_or-set_other s.last e.node node e.stamp zero_stamp other ∙ stands.last node ∙ sym (last_stamp-push events e node false (grind (arith, nat_tests, other)))
+        | inl same ↦
+            let here = last_stamp-push events e e.node true (grind (arith, nat_tests)) in
+            rw same (get_or-set_same s.last e.node e.stamp zero_stamp accepted.node ∙ sym here)
+        | inr other ↦
+            let there = last_stamp-push events e node false (grind (arith, nat_tests, other)) in
+            get_or-set_other s.last e.node node e.stamp zero_stamp other ∙ stands.last node ∙ sym there
       ]
 
       stands_push : {messages : List MessageNumbers} {contents : Contents K} → IsNext order s e messages contents
@@ -183,16 +216,21 @@ module _ {B K : Type 0} (order : K → K → Ordering) (meaning : B → Meaning)
             (λ d is_in. omega (arith, stands.readings d is_in, high_rises d.node))
             (omega (arith, accepted.taken.0.high));
         last = last_is;
-        versions = next.versions ∙ ap (λ vs. recorded_onto order vs (puts (e ∷ []))) stands.versions ∙ sym (recorded_push events e order);
+        versions =
+            next.versions ∙ ap (λ vs. recorded_onto order vs (puts (e ∷ []))) stands.versions
+            ∙ sym (recorded_push events e order);
         messages = λ m is_in. sent_push events e s.messages m stands.messages (next.messages_sent m is_in);
       }
 
     -- so that the recorder stands behind the history with that event
-    pub entered : {history : List (Entry K)} {s : State B K} {e : Event K} {bank : B} {messages : List MessageNumbers} {contents : Contents K}
-        → StandsBehind false history s → IsAccepted meaning s e bank → IsStamped setup.lead (events_of history) e e.what → IsNext order s e messages contents
+    pub entered : {history : List (Entry K)} {s : State B K} {e : Event K} {bank : B}
+        {messages : List MessageNumbers} {contents : Contents K}
+        → StandsBehind false history s → IsAccepted meaning s e bank
+        → IsStamped setup.lead (events_of history) e e.what → IsNext order s e messages contents
         → StandsBehind false (history ++ Entered e ∷ []) (with_event s e.node e.stamp bank messages contents)
     entered {history} {s} {e} {bank} {messages} {contents} before accepted stamped next = record {
-      written = one_more (MayBeWritten order setup) Closed history (Entered e) before.written (before.tells, may_enter before.stands accepted stamped);
+      written = one_more (MayBeWritten order setup) Closed history (Entered e) before.written
+          (before.tells, may_enter before.stands accepted stamped);
       tells = still_tells false history (Entered e) (λ is. absurd (cc is)) before.tells;
       stands = rw (events_of-append history (Entered e ∷ [])) (stands_push before.stands accepted next);
     }
@@ -206,7 +244,7 @@ module _ {B K : Type 0} (order : K → K → Ordering) (meaning : B → Meaning)
   ]
 
   pub fresh_stands : (settings : SettingNumbers) (bank : B) (contents : Contents K) → contents.versions ≡ []
-      → StandsBehind order meaning (setup_of meaning (fresh_state settings bank contents)) false [] (fresh_state settings bank contents)
+      → let start = fresh_state settings bank contents in StandsBehind order meaning (setup_of meaning start) false [] start
   fresh_stands settings bank contents empty = record {
     written = λ j inside. absurd (omega (arith, inside));
     tells = λ closed. elim closed [ ];

@@ -1,5 +1,5 @@
 -- Every run of a fresh recorder keeps the law.
-use Rattle.std.proofs.Common.{◌≡◌, ℕ, ◌≤◌, inl, inr, Bool, true, false, List, [], ◌∷◌, ◌++◌, map, Some, None, Option, refl, sym, ap, ◌∙◌, subst, arith}
+use Rattle.std.proofs.Common.{◌≡◌, ◌≤◌, inl, inr, Bool, true, false, List, [], ◌∷◌, ◌++◌, map, Some, None, Option, refl, ap, subst}
 use Rattle.std.specs.Cmp.{IsTotalOrder}
 use Rattle.std.specs.declared.cmp.Ordering.{Ordering}
 use Rattle.std.specs.List.{cons_option, filter_map}
@@ -29,10 +29,12 @@ entry_first : {K : Type 0} (history : List (Entry K)) (found : Option (Entry K))
 entry_first history None entries = ap (λ h. h ++ entries) (append-nil history)
 entry_first history (Some entry) entries = append_assoc history (entry ∷ []) entries
 
-module _ {B K : Type 0} (order : K → K → Ordering) (total : IsTotalOrder order) (law : IsKeyOrder order) (meaning : B → Meaning) where
+module _ {B K : Type 0} (order : K → K → Ordering) (total : IsTotalOrder order) (law : IsKeyOrder order)
+    (meaning : B → Meaning) where
   module _ (setup : Setup) {s : State B K} where
     -- the answers to the questions may be written, one behind another
-    all_asked : (closed : Bool) (questions : List (Question K)) (history : List (Entry K)) → StandsBehind order meaning setup closed history s
+    all_asked : (closed : Bool) (questions : List (Question K)) (history : List (Entry K))
+        → StandsBehind order meaning setup closed history s
         → IsHistory order setup (history ++ filter_map (λ q. question_entry q (end_answer order meaning closed s q)) questions)
     all_asked closed [] history before = rw (append-nil history) before.written
     all_asked closed (q ∷ questions) history before =
@@ -41,13 +43,15 @@ module _ {B K : Type 0} (order : K → K → Ordering) (total : IsTotalOrder ord
         subst (IsHistory order setup) (entry_first history entry _) rest
 
     -- and a close before all of them
-    end_written : (closes : Bool) (questions : List (Question K)) (history : List (Entry K)) → StandsBehind order meaning setup false history s
+    end_written : (closes : Bool) (questions : List (Question K)) (history : List (Entry K))
+        → StandsBehind order meaning setup false history s
         → IsHistory order setup (history ++ end_entries order meaning closes s questions)
     end_written false questions history before = all_asked false questions history before
     end_written true questions history before =
         let closed : StandsBehind order meaning setup true (history ++ Closed ∷ []) s =
             told order meaning setup before Closed refl tt (λ tells. in_append Closed history (Closed ∷ []) (inr (inl refl))) in
-        subst (IsHistory order setup) (append_assoc history (Closed ∷ []) _) (all_asked true questions (history ++ Closed ∷ []) closed)
+        subst (IsHistory order setup) (append_assoc history (Closed ∷ []) _)
+        (all_asked true questions (history ++ Closed ∷ []) closed)
 
   module _ (lawful_bank : (bank : B) → IsLawful (meaning bank)) where
     pub replayed : (settings : SettingNumbers) (bank : B) (contents : Contents K) → settings.nodes ≤ 16 → contents.versions ≡ []
@@ -60,7 +64,8 @@ module _ {B K : Type 0} (order : K → K → Ordering) (total : IsTotalOrder ord
         let nodes : setup.nodes ≤ 16 = rw (length-replicate settings.nodes zero_stamp) few in
         let fresh = fresh_stands order meaning settings bank contents empty in
         let stands = stands_after order total law meaning lawful_bank setup nodes fresh calls in
-        let written : IsHistory order setup (whole_history order meaning run told end) = end_written setup run.closes run.questions.items told stands in
+        let written : IsHistory order setup (whole_history order meaning run told end) =
+            end_written setup run.closes run.questions.items told stands in
         record {
           during = during;
           told = told;

@@ -1,5 +1,5 @@
 -- Runs: any list of calls, one after another, and the history that they come to.
-use Rattle.std.specs.Prelude.{◌≡◌, ℕ, List, [], ◌∷◌, ◌++◌, take, Some, None, Ok, Err, Option, Result}
+use Rattle.std.specs.Prelude.{◌≡◌, ℕ, List, [], ◌∷◌, ◌++◌, map, take, Some, None, Ok, Err, Option, Result}
 use Rattle.std.specs.declared.cmp.Ordering.{Ordering}
 use Rattle.std.specs.Option.{option_to_list}
 use Rattle.std.specs.Result.{result_unwrap_or}
@@ -10,7 +10,8 @@ use Rattle.history.specs.History.{Cut, Entered, Entry, Read}
 use Rattle.recorder.specs.Answers.{clock_answer, note_answer, put_answer, receipt_answer, send_answer}
 use Rattle.recorder.specs.State.{State, is_settled}
 use Rattle.stamps.specs.Rules.{StampedNumbers}
-use Rattle.replay.specs.Calls.{AnswerNumbers, CutAnswer, EventAnswer, LossAnswer, ReadAnswer, UnderWayAnswer, after_call, call_answer, question_answer}
+use Rattle.replay.specs.Calls.{AnswerNumbers, answer_numbers, CutAnswer, EventAnswer, LossAnswer, ReadAnswer, UnderWayAnswer, after_call, call_answer, question_answer}
+use Rattle.replay.specs.declared.call.Answer.{Answer}
 use Rattle.replay.specs.declared.call.Call.{Call}
 use Rattle.replay.specs.declared.call.Call.TheVariants as call
 use Rattle.replay.specs.declared.call.Question.{Question}
@@ -71,3 +72,10 @@ module _ {B K : Type 0} (order : K → K → Ordering) (meaning : B → Meaning)
     OneMore : {calls : List (Call K)} {answers : List (AnswerNumbers K)} {history : List (Entry K)} {s next : State B K} {c : Call K} {a : AnswerNumbers K}
         → IsRun start calls answers history s → IsStep s c a next
         → IsRun start (calls ++ c ∷ []) (answers ++ a ∷ []) (history ++ option_to_list (call_entry s c)) next
+
+-- A list of answers gained those to these calls, which led the recorder from `start` to `end`.
+pub record GainsRun {B K : Type 0} (order : K → K → Ordering) (meaning : B → Meaning) (start end : State B K) (calls : List (Call K)) (before after : List (Answer K)) : Type 0 where
+  pub gained : List (Answer K)
+  pub list : after ≡ before ++ gained
+  pub told : List (Entry K)
+  pub run : IsRun order meaning start calls (map answer_numbers gained) told end

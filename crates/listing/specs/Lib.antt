@@ -1,3 +1,5 @@
-pub mod Adding
+pub mod Calls
 pub mod Lines
+pub mod Machine
+pub mod SetUp
 pub mod Text

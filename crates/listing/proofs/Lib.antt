@@ -1,4 +1,1 @@
-mod Adding
-mod Spacing
-mod Progress
 mod Splitting

@@ -45,9 +45,13 @@ answer_pieces (UnderWayAnswer answer rows) = result_map (λ _. []) answer
 abbrev pub Outcome : Type 0
 Outcome = Result (List Piece) ℕ
 
+-- of a record of which more is said, or that was refused
+abbrev pub outcome_for : Content → Result (List Piece) ℕ → Outcome
+outcome_for m more = result_map (λ pieces. record_pieces m ++ pieces) more
+
 -- of a record that the recorder answered so
 abbrev pub answered : {K : Type 0} → Content → AnswerNumbers K → Outcome
-answered m answer = result_map (λ pieces. record_pieces m ++ pieces) (answer_pieces answer)
+answered m answer = outcome_for m (answer_pieces answer)
 
 -- the line of the record with this number
 abbrev pub outcome_line : ℕ → Outcome → List ℕ

@@ -1,9 +1,11 @@
 -- The set-up, which the first record has to be.
 use Rattle.std.specs.Prelude.{ℕ, ◌&&◌, ◌==◌, if◌then◌else◌, Ok, Err, Result, nat_le}
 use Rattle.clocks.specs.Limits.{day_millis}
-use Rattle.recorder.specs.Settings.{SettingNumbers, most_nodes}
+use Rattle.recorder.specs.Settings.{SettingNumbers, most_nodes, setting_numbers}
 use Rattle.trace.specs.Contents.{Content, set_up, note, send, receipt, loss, put_point, put_tag, read_point, read_tag}
+use Rattle.clocks.specs.Settings.{backstep_of}
 use Rattle.listing.specs.declared.setup.Keys.{Keys}
+use Rattle.listing.specs.declared.setup.SetUp.{SetUp}
 use Rattle.listing.specs.declared.setup.Keys.TheVariants.{Points, Tags}
 
 -- what a set-up sets: the recorder, the kind of its keys, and how far a clock may step back
@@ -11,6 +13,9 @@ pub record SetUpNumbers : Type 0 where
   pub settings : SettingNumbers
   pub keys : Keys
   pub backstep : ℕ
+
+abbrev pub set_up_numbers : SetUp → SetUpNumbers
+set_up_numbers s = record { settings = setting_numbers s.settings; keys = s.keys; backstep = backstep_of s.backstep }
 
 -- 0 for points, 1 for tags
 abbrev pub keys_answer : ℕ → Result Keys ℕ

@@ -16,7 +16,7 @@ use Rattle.replay.specs.declared.call.Call.{Call}
 use Rattle.trace.specs.Contents.{Content}
 use Rattle.trace.specs.Whole.{Ending, Whole, refused, whole_of}
 use Rattle.listing.specs.Calls.{KeyForm, call_of, points, tags}
-use Rattle.listing.specs.Lines.{Outcome, accepted_among, answered, end_line, ending_lines, outcome_lines, record_pieces, refused_among}
+use Rattle.listing.specs.Lines.{Outcome, accepted_among, answered, end_line, ending_lines, outcome_for, outcome_lines, refused_among}
 use Rattle.listing.specs.Machine.{highs_after}
 use Rattle.listing.specs.SetUp.{SetUpNumbers, set_up_answer}
 use Rattle.listing.specs.declared.setup.Keys.{Keys}
@@ -66,7 +66,7 @@ pub record Listing : Type 0 where
 -- of a first record that is a set-up, or is refused, and then no more is read
 abbrev pub set_up_listing : Result SetUpNumbers ℕ → Content → List Content → Ending → Listing
 set_up_listing (Ok setup) m ms ending =
-    record { outcomes = Ok (record_pieces m) ∷ outcomes_for setup.keys setup ms; ending = ending }
+    record { outcomes = outcome_for m (Ok []) ∷ outcomes_for setup.keys setup ms; ending = ending }
 set_up_listing (Err refusal) m ms ending = record { outcomes = []; ending = refused refusal 0 }
 
 abbrev pub listing_of : List Content → Ending → Listing

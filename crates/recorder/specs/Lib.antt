@@ -3,3 +3,4 @@ pub mod Stamps
 pub mod State
 pub mod Answers
 pub mod Changes
+pub mod Examples

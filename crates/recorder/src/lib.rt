@@ -3,6 +3,7 @@
 
 pub mod closed;
 pub mod empty_store;
+pub mod examples;
 mod last_stamps;
 pub mod open;
 pub mod settings;

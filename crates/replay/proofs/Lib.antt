@@ -1,3 +1,4 @@
+mod Gaining
 mod Standing
 mod Accepted
 mod Asking

@@ -7,7 +7,7 @@ use Rattle.history.specs.History.{Closed, Entry, IsHistory, Setup}
 use Rattle.history.specs.Law.{IsLawful}
 use Rattle.recorder.specs.State.{State, is_settled}
 use Rattle.replay.specs.Calls.{AnswerNumbers, answer_numbers, question_answer}
-use Rattle.replay.specs.Runs.{IsRun, question_entry}
+use Rattle.replay.specs.Runs.{GainsRun, IsRun, question_entry}
 use Rattle.replay.specs.declared.call.Answer.{Answer}
 use Rattle.replay.specs.declared.call.Question.{Question}
 use Rattle.replay.specs.declared.replay.Run.{Run}
@@ -46,6 +46,19 @@ module _ {B K : Type 0} (order : K → K → Ordering) (meaning : B → Meaning)
     -- what the run came to is a history, and keeps the law
     pub written : IsHistory order (setup_of meaning start) (whole_history run told end)
     pub lawful : IsLawful order (setup_of meaning start) (whole_history run told end)
+
+-- A list of answers gained those to these questions, in order.
+pub record GainsEach {K : Type 0} (answer : Question K → AnswerNumbers K) (questions : List (Question K)) (before after : List (Answer K)) : Type 0 where
+  pub gained : List (Answer K)
+  pub list : after ≡ before ++ gained
+  pub each : map answer_numbers gained ≡ map answer questions
+
+-- A recorder that stood at `start` was given a run: a list gained the answers to the calls, and then those to the questions.
+pub record WasGiven {B K : Type 0} (order : K → K → Ordering) (meaning : B → Meaning) (start : State B K) (run : Run K) (before after : List (Answer K)) : Type 0 where
+  pub end : State B K
+  pub mid : List (Answer K)
+  pub calls : GainsRun order meaning start end run.calls.items before mid
+  pub questions : GainsEach (end_answer order meaning run.closes end) run.questions.items mid after
 
 -- A list of answers gained those to a run.
 pub record GainsAnswers {B K : Type 0} (order : K → K → Ordering) (meaning : B → Meaning) (start : State B K) (run : Run K) (before after : List (Answer K)) : Type 0 where

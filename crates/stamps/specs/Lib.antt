@@ -2,5 +2,4 @@ pub mod Range
 pub mod Stamp
 pub mod Lead
 pub mod Rules
-pub mod Examples
 pub mod Text

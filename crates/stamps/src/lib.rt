@@ -2,7 +2,6 @@
 #![tactic(auto)]
 
 pub mod code;
-pub mod examples;
 pub mod lead;
 pub mod rules;
 pub mod stamp;

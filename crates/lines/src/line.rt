@@ -52,3 +52,10 @@ pub enum Piece {
     // A stamp's code, which is printed as time.counter.
     Stamp(u64),
 }
+
+// What stands in a place of an `ArrayVec` that is free.
+impl Default for Piece {
+    fn default() -> Piece {
+        Piece::Number(0)
+    }
+}

@@ -1,1 +1,2 @@
+mod Progress
 mod Splitting

@@ -20,7 +20,7 @@ pub(crate) trait TraceKey: KeyKind {
 
     // The key of these bytes: refused with 6 where they are of the other kind, then with 3 where they are no tag.
     fn from_bytes(bytes: KeyBytes<'_>) -> Result<Self, Refusal>
-        ensures { shown result ≡ key_of form bytes };
+        ensures { shown result ≡ key_of form bytes.entry };
 
     // Some key, for a place that has no version yet.
     fn any() -> Self;
@@ -118,8 +118,11 @@ pub(crate) fn calls_for<K: TraceKey>(
 ) -> Result<Vec<Call<K>>, AllocError>
     ensures { IfOk result (λ calls. calls.items ≡ calls_of K.form (map content_of records.now)) }
 {
-    records
-        .iter()
-        .filter_map(|record| call_for(record).ok())
-        .try_collect(heap)
+    let mut calls = Vec::new(heap);
+    for record in records {
+        if let Ok(call) = call_for(record) {
+            calls.push(call)?;
+        }
+    }
+    Ok(calls)
 }

@@ -14,6 +14,8 @@ use crate::calls::{TraceKey, calls_for};
 use crate::outcomes::{Counts, add_outcomes};
 use crate::setup::{Keys, SetUp};
 use clocks::trace_clocks::TraceClocks;
+use keys::point::Point;
+use keys::tag::Tag;
 use recorder::empty_store::EmptyStore;
 use replay::replay::{Run, replay};
 use search_tree::{Node, SearchTree};
@@ -76,13 +78,15 @@ pub(crate) fn add_run(
 {
     match setup.keys {
         Keys::Points => {
-            let mut places = [blank(); PLACES];
-            let store = SortedRun::new(&mut places).and_then(EmptyStore::new).unwrap();
+            let mut places = [blank::<Point>(); PLACES];
+            let store = SortedRun::new(&mut places).unwrap();
+            let store = EmptyStore::new(store).unwrap();
             add_run_in(text, heap, setup, store, records)
         }
         Keys::Tags => {
-            let mut nodes = [Node::new(blank()); PLACES];
-            let store = SearchTree::new(&mut nodes).and_then(EmptyStore::new).unwrap();
+            let mut nodes = [Node::new(blank::<Tag>()); PLACES];
+            let store = SearchTree::new(&mut nodes).unwrap();
+            let store = EmptyStore::new(store).unwrap();
             add_run_in(text, heap, setup, store, records)
         }
     }

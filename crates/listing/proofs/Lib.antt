@@ -1,2 +1,3 @@
+mod Lining
 mod Progress
 mod Splitting

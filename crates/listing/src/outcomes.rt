@@ -1,12 +1,12 @@
 // The lines of a listing.
-ghost use Rattle.std.specs.Prelude.{◌≡◌, ◌+◌, ◌++◌, IfOk, length, map};
+ghost use Rattle.std.specs.Prelude.{◌≡◌, ◌+◌, ◌++◌, ◌<◌, IfOk, IsOk, length, map};
 ghost use Rattle.lines.specs.Adding.{Adds, AddsInRoom};
 ghost use Rattle.refusals.specs.Refusals.{number_of, result_map, shown};
 ghost use Rattle.replay.specs.Calls.{answer_numbers};
 ghost use Rattle.trace.specs.Contents.{content_of};
-ghost use Rattle.listing.specs.Calls.{calls_of};
+ghost use Rattle.listing.specs.Calls.{call_of, calls_of};
 ghost use Rattle.listing.specs.Lines.{accepted_among, answer_pieces as answer_pieces_of, bad_line, end_line, ending_lines, outcome_for, outcome_line, outcome_lines, record_pieces as record_pieces_of, refused_among};
-ghost use Rattle.listing.specs.Outcomes.{recorded};
+ghost use Rattle.listing.specs.Outcomes.{answers_left, next_outcome, recorded};
 ghost use Rattle.listing.specs.Reading.{ending_of};
 
 use crate::calls::{TraceKey, call_for};
@@ -101,6 +101,37 @@ pub(crate) fn add_outcome(
     }
 }
 
+// What more is said of a record, or its refusal; and the answers that are left behind it.
+#[derive(Drop)]
+struct Next<'a, K: TraceKey> {
+    more: Result<ArrayVec<Piece, 3>, Refusal>,
+    left: &'a [Answer<K>],
+}
+
+// A record that is not refused before has the first of the answers.
+fn next_of<'a, K: TraceKey>(record: &Record, answers: &'a [Answer<K>]) -> Next<'a, K>
+    requires { IsOk (call_of K.form (content_of «record».now)) → 0 < length answers.now }
+    ensures more { let m = content_of «record».now in
+        outcome_for m (shown (result_map (λ pieces. pieces.items) result.more))
+            ≡ next_outcome m (call_of K.form m) (map answer_numbers answers.now) }
+    ensures left { map answer_numbers result.left.now
+        ≡ answers_left (call_of K.form (content_of «record».now)) (map answer_numbers answers.now) }
+{
+    if let Err(refusal) = call_for::<K>(record) {
+        return Next {
+            more: Err(refusal),
+            left: answers,
+        };
+    }
+    let Some((answer, left)) = answers.split_first() else {
+        unreachable!()
+    };
+    Next {
+        more: answer_pieces(answer),
+        left,
+    }
+}
+
 // How many records were accepted, and how many refused.
 #[derive(Clone, Copy, Debug)]
 pub(crate) struct Counts {
@@ -126,24 +157,16 @@ pub(crate) fn add_outcomes<K: TraceKey>(
         accepted: 1,
         refused: 0,
     };
-    let mut answers = answers;
+    let mut left = answers;
     for record in records {
-        let more = match call_for::<K>(record) {
-            Ok(_) => {
-                let Some((answer, later)) = answers.split_first() else {
-                    unreachable!()
-                };
-                answers = later;
-                answer_pieces(answer)
-            }
-            Err(refusal) => Err(refusal),
-        };
         let number = counts.accepted + counts.refused + 1;
-        match more {
+        let next = next_of(record, left);
+        left = next.left;
+        match next.more {
             Ok(_) => counts.accepted += 1,
             Err(_) => counts.refused += 1,
         }
-        add_outcome(text, number, record, more)?;
+        add_outcome(text, number, record, next.more)?;
     }
     Ok(counts)
 }

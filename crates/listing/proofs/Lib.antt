@@ -1,3 +1,5 @@
 mod Lining
+mod Machine
 mod Progress
+mod Running
 mod Splitting

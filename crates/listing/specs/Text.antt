@@ -36,12 +36,12 @@ module _ {K : Type 0} (form : KeyForm K) (order : K → K → Ordering) (backste
   clocks highs = trace_meaning highs backstep
 
   -- what comes of a record with this call, or that was refused before the recorder saw it
-  abbrev outcome : State (ℕ → ℕ) K → Content → Result (Call K) ℕ → Outcome
+  abbrev pub outcome : State (ℕ → ℕ) K → Content → Result (Call K) ℕ → Outcome
   outcome s m (Ok c) = answered m (call_answer order clocks s c)
   outcome s m (Err refusal) = Err refusal
 
   -- the recorder behind it
-  abbrev state_behind : State (ℕ → ℕ) K → Result (Call K) ℕ → State (ℕ → ℕ) K
+  abbrev pub state_behind : State (ℕ → ℕ) K → Result (Call K) ℕ → State (ℕ → ℕ) K
   state_behind s (Ok c) = after_call order clocks s c (highs_after order backstep s c)
   state_behind s (Err refusal) = s
 
@@ -50,7 +50,7 @@ module _ {K : Type 0} (form : KeyForm K) (order : K → K → Ordering) (backste
   outcomes s [] = []
   outcomes s (m ∷ ms) = outcome s m (call_of form m) ∷ outcomes (state_behind s (call_of form m)) ms
 
-abbrev point_cmp : Point → Point → Ordering
+abbrev pub point_cmp : Point → Point → Ordering
 point_cmp a b = nat_cmp a.0 b.0
 
 -- of the records behind a set-up

@@ -5,8 +5,11 @@ ghost use Rattle.clocks.specs.Settings.{backstep_of};
 ghost use Rattle.lines.specs.Adding.{Adds};
 ghost use Rattle.recorder.specs.Settings.{setting_numbers};
 ghost use Rattle.recorder.specs.State.{fresh_state};
+ghost use Rattle.replay.specs.Calls.{answer_numbers};
 ghost use Rattle.trace.specs.Contents.{content_of};
+ghost use Rattle.listing.specs.Calls.{calls_of};
 ghost use Rattle.listing.specs.Lines.{accepted_among, outcome_lines, refused_among};
+ghost use Rattle.listing.specs.Machine.{trace_answers};
 ghost use Rattle.listing.specs.SetUp.{set_up_numbers};
 ghost use Rattle.listing.specs.Text.{outcomes, outcomes_for};
 
@@ -17,6 +20,7 @@ use clocks::trace_clocks::TraceClocks;
 use keys::point::Point;
 use keys::tag::Tag;
 use recorder::empty_store::EmptyStore;
+use replay::call::Answer;
 use replay::replay::{Run, replay};
 use search_tree::{Node, SearchTree};
 use sorted_run::SortedRun;
@@ -38,7 +42,31 @@ fn blank<K: TraceKey>() -> Version<K> {
     }
 }
 
+// What a recorder with this store answers to the calls of the records behind a set-up.
+fn answers_for<K: TraceKey, S: Listable<K> + Drop>(
+    heap: Global,
+    setup: SetUp,
+    store: EmptyStore<K, S>,
+    records: &[Record],
+) -> Result<Vec<Answer<K>>, AllocError>
+    ensures { let start = fresh_state (setting_numbers setup.settings) fresh_highs store in
+        let calls = calls_of K.form (map content_of records.now) in
+        IfOk result (λ answers. map answer_numbers answers.items
+            ≡ trace_answers K.cmp (backstep_of setup.backstep) start calls) }
+{
+    let run = Run {
+        calls: calls_for(heap, records)?,
+        closes: false,
+        questions: Vec::new(heap),
+    };
+    let bank = TraceClocks::new(setup.backstep);
+    let mut answers = Vec::new(heap);
+    replay(setup.settings, bank, store, run, &mut answers)?;
+    Ok(answers)
+}
+
 // The lines of the records behind a set-up, and the counts of all records: through a recorder with this store.
+#[tactic(auto, using(crate::proofs::Running::recorded_run, crate::proofs::Running::as_many))]
 fn add_run_in<K: TraceKey, S: Listable<K> + Drop>(
     text: &mut String,
     heap: Global,
@@ -53,14 +81,7 @@ fn add_run_in<K: TraceKey, S: Listable<K> + Drop>(
         let all = outcomes K.form K.cmp (backstep_of setup.backstep) start (map content_of records.now) in
         IfOk result (λ c. (c.accepted ≡ 1 + accepted_among all) × (c.refused ≡ refused_among all)) }
 {
-    let run = Run {
-        calls: calls_for(heap, records)?,
-        closes: false,
-        questions: Vec::new(heap),
-    };
-    let bank = TraceClocks::new(setup.backstep);
-    let mut answers = Vec::new(heap);
-    replay(setup.settings, bank, store, run, &mut answers)?;
+    let answers = answers_for(heap, setup, store, records)?;
     add_outcomes(text, records, &answers)
 }
 

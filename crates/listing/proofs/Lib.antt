@@ -1,3 +1,4 @@
+mod Composing
 mod Lining
 mod Machine
 mod Progress

@@ -1,12 +1,12 @@
 // The lines of a listing.
-ghost use Rattle.std.specs.Prelude.{◌≡◌, ◌+◌, ◌++◌, ◌<◌, IfOk, IsOk, length, map};
+ghost use Rattle.std.specs.Prelude.{◌≡◌, ◌++◌, ◌<◌, IfOk, IsOk, length, map};
 ghost use Rattle.lines.specs.Adding.{Adds, AddsInRoom};
 ghost use Rattle.refusals.specs.Refusals.{number_of, result_map, shown};
 ghost use Rattle.replay.specs.Calls.{answer_numbers};
 ghost use Rattle.trace.specs.Contents.{content_of};
 ghost use Rattle.listing.specs.Calls.{call_of, calls_of};
-ghost use Rattle.listing.specs.Lines.{accepted_among, answer_pieces as answer_pieces_of, bad_line, end_line, ending_lines, outcome_for, outcome_line, outcome_lines, record_pieces as record_pieces_of, refused_among};
-ghost use Rattle.listing.specs.Outcomes.{answers_left, next_outcome, recorded};
+ghost use Rattle.listing.specs.Lines.{answer_pieces as answer_pieces_of, bad_line, end_line, ending_lines, outcome_for, outcome_line, outcome_lines, record_pieces as record_pieces_of};
+ghost use Rattle.listing.specs.Outcomes.{AreCounts, answers_left, next_outcome, recorded};
 ghost use Rattle.listing.specs.Reading.{ending_of};
 
 use crate::calls::{TraceKey, call_for};
@@ -151,7 +151,7 @@ pub(crate) fn add_outcomes<K: TraceKey>(
         Adds text.old text.new (outcome_lines 2 outcomes) result }
     ensures counts { let outcomes = recorded K.form (map content_of records.now)
             (map answer_numbers answers.now) in
-        IfOk result (λ c. (c.accepted ≡ 1 + accepted_among outcomes) × (c.refused ≡ refused_among outcomes)) }
+        IfOk result (AreCounts outcomes) }
 {
     let mut counts = Counts {
         accepted: 1,

@@ -1,5 +1,5 @@
 // The run of a trace through a recorder.
-ghost use Rattle.std.specs.Prelude.{◌≡◌, ◌+◌, IfOk, map};
+ghost use Rattle.std.specs.Prelude.{◌≡◌, IfOk, map};
 ghost use Rattle.clocks.specs.Highs.{fresh_highs};
 ghost use Rattle.clocks.specs.Settings.{backstep_of};
 ghost use Rattle.lines.specs.Adding.{Adds};
@@ -8,8 +8,9 @@ ghost use Rattle.recorder.specs.State.{fresh_state};
 ghost use Rattle.replay.specs.Calls.{answer_numbers};
 ghost use Rattle.trace.specs.Contents.{content_of};
 ghost use Rattle.listing.specs.Calls.{calls_of};
-ghost use Rattle.listing.specs.Lines.{accepted_among, outcome_lines, refused_among};
+ghost use Rattle.listing.specs.Lines.{outcome_lines};
 ghost use Rattle.listing.specs.Machine.{trace_answers};
+ghost use Rattle.listing.specs.Outcomes.{AreCounts};
 ghost use Rattle.listing.specs.SetUp.{set_up_numbers};
 ghost use Rattle.listing.specs.Text.{outcomes, outcomes_for};
 
@@ -79,7 +80,7 @@ fn add_run_in<K: TraceKey, S: Listable<K> + Drop>(
         Adds text.old text.new (outcome_lines 2 all) result }
     ensures counts { let start = fresh_state (setting_numbers setup.settings) fresh_highs store in
         let all = outcomes K.form K.cmp (backstep_of setup.backstep) start (map content_of records.now) in
-        IfOk result (λ c. (c.accepted ≡ 1 + accepted_among all) × (c.refused ≡ refused_among all)) }
+        IfOk result (AreCounts all) }
 {
     let answers = answers_for(heap, setup, store, records)?;
     add_outcomes(text, records, &answers)
@@ -95,7 +96,7 @@ pub(crate) fn add_run(
     ensures text { let all = outcomes_for setup.keys (set_up_numbers setup) (map content_of records.now) in
         Adds text.old text.new (outcome_lines 2 all) result }
     ensures counts { let all = outcomes_for setup.keys (set_up_numbers setup) (map content_of records.now) in
-        IfOk result (λ c. (c.accepted ≡ 1 + accepted_among all) × (c.refused ≡ refused_among all)) }
+        IfOk result (AreCounts all) }
 {
     match setup.keys {
         Keys::Points => {

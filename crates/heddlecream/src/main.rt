@@ -12,6 +12,6 @@ fn main(rt: HostRuntime) -> io::Result<()> {
         .take(report::LONGEST as u64 + 1)
         .read_to_end(&mut trace)?;
     let mut text = String::new(heap);
-    report::add_listing(&mut text, &trace)?;
+    report::add_listing(&mut text, heap, &trace)?;
     rt.stdout().write_all(text.as_bytes())
 }

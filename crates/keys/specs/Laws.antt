@@ -42,7 +42,7 @@ cmp_by_name (x ∷ xs) (y ∷ ys) e p q =
     grind (arith, nat_tests, name_of-cons, padding_of-cons)
 
 -- tags of the same bytes are the same tag, since each ghost fact has one proof at most
-same_tag : (a b : Tag) → a.bytes ≡ b.bytes → a ≡ b
+pub same_tag : (a b : Tag) → a.bytes ≡ b.bytes → a ≡ b
 same_tag a b e = λ i. record {
   bytes = e i;
   sixteen = is_prop→PathP (λ j. length (e j) ≡ 16) (λ j. hlevel props) a.sixteen b.sixteen i;

@@ -1,5 +1,7 @@
-mod Adding
-mod Spacing
+mod Composing
+mod Lining
+mod Machine
 mod Progress
+mod Running
 mod Splitting
 mod Machine

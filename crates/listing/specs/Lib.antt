@@ -1,4 +1,8 @@
-pub mod Adding
+pub mod Calls
 pub mod Lines
+pub mod Machine
+pub mod Outcomes
+pub mod Reading
+pub mod SetUp
 pub mod Text
 pub mod Machine

@@ -1,40 +1,86 @@
 -- The text that the program prints.
-use Rattle.std.specs.Prelude.{ℕ, ◌+◌, if◌then◌else◌, List, [], ◌∷◌, ◌++◌, length, nat_le}
+use Rattle.std.specs.Prelude.{ℕ, ◌+◌, if◌then◌else◌, List, [], ◌∷◌, ◌++◌, length, nat_le, Ok, Err, Result}
+use Rattle.std.specs.Ordering.{nat_cmp}
+use Rattle.std.specs.declared.cmp.Ordering.{Ordering}
+use Rattle.clocks.specs.Bank.{Meaning}
+use Rattle.clocks.specs.Highs.{fresh_highs}
+use Rattle.clocks.specs.TraceClocks.{trace_meaning}
+use Rattle.keys.specs.Tag.{tag_cmp}
+use Rattle.keys.specs.declared.point.Point.{Point}
+use Rattle.lines.specs.Lines.{line_text}
+use Rattle.lines.specs.declared.line.Piece.TheVariants.{Word}
+use Rattle.lines.specs.declared.line.Word.TheVariants.{TooLong}
+use Rattle.recorder.specs.State.{State, fresh_state}
+use Rattle.replay.specs.Calls.{after_call, call_answer}
+use Rattle.replay.specs.declared.call.Call.{Call}
 use Rattle.trace.specs.Contents.{Content}
-use Rattle.trace.specs.Whole.{Whole, Ending, complete, refused, whole_of}
-use Rattle.listing.specs.declared.line.Piece.TheVariants.{Word, Number}
-use Rattle.listing.specs.declared.line.Word.TheVariants.{Bad, At, End, TooLong}
-use Rattle.listing.specs.Lines.{word_of, line_text}
+use Rattle.trace.specs.Whole.{Ending, Whole, refused, whole_of}
+use Rattle.listing.specs.Calls.{KeyForm, call_of, points, tags}
+use Rattle.listing.specs.Lines.{Outcome, accepted_among, answered, end_line, ending_lines, outcome_for, outcome_lines, refused_among}
+use Rattle.listing.specs.Machine.{highs_after}
+use Rattle.listing.specs.SetUp.{SetUpNumbers, set_up_answer}
+use Rattle.listing.specs.declared.setup.Keys.{Keys}
+use Rattle.listing.specs.declared.setup.Keys.TheVariants.{Points, Tags}
 
--- a record: its number and its word
-abbrev pub record_line : ℕ → Content → List ℕ
-record_line n m = line_text (Number n ∷ Word (word_of m) ∷ [])
+-- for so many versions the program has places
+abbrev pub places : ℕ
+places = 1024
 
--- a line for each record, the first under the number n
-abbrev pub record_lines : ℕ → List Content → List ℕ
-record_lines n [] = []
-record_lines n (m ∷ ms) = record_line n m ++ record_lines (n + 1) ms
+-- the recorder before the first event
+abbrev pub first_state : {K : Type 0} → SetUpNumbers → State (ℕ → ℕ) K
+first_state setup = fresh_state setup.settings fresh_highs (record { versions = []; capacity = places })
 
--- what is refused: the refusal's number and the offset
-abbrev pub bad_line : ℕ → ℕ → List ℕ
-bad_line number offset = line_text (Word Bad ∷ Number number ∷ Word At ∷ Number offset ∷ [])
+module _ {K : Type 0} (form : KeyForm K) (order : K → K → Ordering) (backstep : ℕ) where
+  -- the clocks, told by the highest reading of each node
+  abbrev clocks : (ℕ → ℕ) → Meaning
+  clocks highs = trace_meaning highs backstep
 
--- a line for what is refused behind the records
-abbrev pub ending_lines : Ending → List ℕ
-ending_lines complete = []
-ending_lines (refused number at) = bad_line number at
+  -- what comes of a record with this call, or that was refused before the recorder saw it
+  abbrev pub outcome : State (ℕ → ℕ) K → Content → Result (Call K) ℕ → Outcome
+  outcome s m (Ok c) = answered m (call_answer order clocks s c)
+  outcome s m (Err refusal) = Err refusal
 
--- the lines of a trace but for the last
-abbrev pub body_text : Whole → List ℕ
-body_text w = record_lines 1 w.records ++ ending_lines w.ending
+  -- the recorder behind it
+  abbrev pub state_behind : State (ℕ → ℕ) K → Result (Call K) ℕ → State (ℕ → ℕ) K
+  state_behind s (Ok c) = after_call order clocks s c (highs_after order backstep s c)
+  state_behind s (Err refusal) = s
 
--- the last line: how many records were accepted, and how many refused
-abbrev pub end_line : ℕ → ℕ → List ℕ
-end_line accepted refusals = line_text (Word End ∷ Number accepted ∷ Number refusals ∷ [])
+  -- what comes of these records, one after another
+  abbrev pub outcomes : State (ℕ → ℕ) K → List Content → List Outcome
+  outcomes s [] = []
+  outcomes s (m ∷ ms) = outcome s m (call_of form m) ∷ outcomes (state_behind s (call_of form m)) ms
+
+abbrev pub point_cmp : Point → Point → Ordering
+point_cmp a b = nat_cmp a.0 b.0
+
+-- of the records behind a set-up
+abbrev pub outcomes_for : Keys → SetUpNumbers → List Content → List Outcome
+outcomes_for Points setup ms = outcomes points point_cmp setup.backstep (first_state setup) ms
+outcomes_for Tags setup ms = outcomes tags tag_cmp setup.backstep (first_state setup) ms
+
+-- What is listed: the outcomes, in order, and how the listing ends.
+pub record Listing : Type 0 where
+  pub outcomes : List Outcome
+  pub ending : Ending
+
+-- of a first record that is a set-up, or is refused, and then no more is read
+abbrev pub set_up_listing : Result SetUpNumbers ℕ → Content → List Content → Ending → Listing
+set_up_listing (Ok setup) m ms ending =
+    record { outcomes = outcome_for m (Ok []) ∷ outcomes_for setup.keys setup ms; ending = ending }
+set_up_listing (Err refusal) m ms ending = record { outcomes = []; ending = refused refusal 0 }
+
+abbrev pub listing_of : List Content → Ending → Listing
+listing_of [] ending = record { outcomes = []; ending = ending }
+listing_of (m ∷ ms) ending = set_up_listing (set_up_answer m) m ms ending
+
+-- a line for each record, one where no more was read, and the last one with the counts
+abbrev pub listing_text : Listing → List ℕ
+listing_text l =
+    outcome_lines 1 l.outcomes ++ (ending_lines l.ending ++ end_line (accepted_among l.outcomes) (refused_among l.outcomes))
 
 -- the text for these bytes
 abbrev pub text_of : List ℕ → List ℕ
 text_of bs =
     (if nat_le (length bs) 65536
-    then body_text (whole_of bs) ++ end_line (length (whole_of bs).records) 0
+    then listing_text (listing_of (whole_of bs).records (whole_of bs).ending)
     else line_text (Word TooLong ∷ []))

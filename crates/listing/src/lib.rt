@@ -1,6 +1,9 @@
 // The listing: a trace's bytes to the text that is printed.
 #![tactic(auto)]
 
-mod line;
+mod calls;
+mod outcomes;
+mod reading;
 pub mod report;
-mod text;
+mod run;
+mod setup;

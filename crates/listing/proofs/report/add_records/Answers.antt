@@ -1,27 +1,20 @@
-use Rattle.std.proofs.Common.{◌≡◌, Ok, Some, sym, ap, ◌∙◌, rules}
-use Rattle.refusals.specs.Refusals.{number_of}
-use Rattle.trace.specs.Contents.{content_of}
-use Rattle.trace.specs.Format.{entry_of, place_behind}
-use Rattle.trace.specs.Readers.{next_finding}
-use Rattle.listing.proofs.Progress.{listed, record_failed, bad_failed}
+use Rattle.std.proofs.Common.{◌≡◌, ◌∷◌, sym, ◌∙◌}
+use Rattle.listing.proofs.Composing.{all_added, first_failed, others_failed}
 use Rattle.listing.proofs.report.add_records.Goals as goal
 
-pub loop-entry-preserved : goal.loop-entry-preserved
-loop-entry-preserved c =
-    let entry = c.in-Ok-Some.entry in
-    let found = c.in-Ok-Some.ensures in
-    let e : next_finding c.loop-entry.reader ≡ Ok (Some (entry_of entry)) = search (rules, found) in
-    listed c.loop-entry.invariant entry.offset (content_of entry.«record») c.next_entry.new.self e found.trace found.offset c.in_ok-add_record-in-Ok-Some.ensures
+pub returns-in_err-add_outcome-in-Ok : goal.returns-in_err-add_outcome-in-Ok
+returns-in_err-add_outcome-in-Ok c =
+    first_failed _ _ _ _ _ _ (sym c.deref.ensures.value ∙ c.in-Some.ensures.cases.0) c.in-Ok.ensures c.new.ensures _ c.from_residual.result
+    c.in_err-add_outcome-in-Ok.ensures.adds c.from_residual.ensures.0
 
-pub returns-in_err-add_record-in-Ok-Some-clause-text : goal.returns-in_err-add_record-in-Ok-Some-clause-text
-returns-in_err-add_record-in-Ok-Some-clause-text c =
-    let entry = c.in-Ok-Some.entry in
-    let found = c.in-Ok-Some.ensures in
-    let e : next_finding c.loop-entry.reader ≡ Ok (Some (entry_of entry)) = search (rules, found) in
-    record_failed c.loop-entry.invariant entry.offset (content_of entry.«record») c.from_residual.result e c.in_err-add_record-in-Ok-Some.ensures c.from_residual.ensures.0
+pub returns-in_err-counts-in-Ok : goal.returns-in_err-counts-in-Ok
+returns-in_err-counts-in-Ok c =
+    others_failed _ _ _ _ _ _ (sym c.deref.ensures.value ∙ c.in-Some.ensures.cases.0) c.in-Ok.ensures c.new.ensures _
+    c.in_ok-add_outcome-in-Ok.ensures.adds c.from_residual-in_err-counts-in-Ok.result c.in_err-counts-in-Ok.ensures.text
+    c.from_residual-in_err-counts-in-Ok.ensures.0
 
-pub returns-in_err-add_bad-in-Err-clause-text : goal.returns-in_err-add_bad-in-Err-clause-text
-returns-in_err-add_bad-in-Err-clause-text c =
-    let e = sym c.in-Err.ensures.answer in
-    let here = c.in-Err.ensures.offset ∙ ap (place_behind c.loop-entry.reader.offset) e in
-    bad_failed c.loop-entry.invariant (number_of c.in-Err.refusal) c.offset.result c.from_residual-in_err-add_bad-in-Err.result e (c.offset.ensures ∙ here) c.in_err-add_bad-in-Err.ensures c.from_residual-in_err-add_bad-in-Err.ensures.0
+pub returns-in_ok-counts-in-Ok : goal.returns-in_ok-counts-in-Ok
+returns-in_ok-counts-in-Ok c =
+    all_added _ _ _ _ _ _ (sym c.deref.ensures.value ∙ c.in-Some.ensures.cases.0) c.in-Ok.ensures c.new.ensures _
+    c.in_ok-add_outcome-in-Ok.ensures.adds c.add_end-in-Ok.result c.in_ok-counts-in-Ok.ensures.text c.in_ok-counts-in-Ok.ensures.counts
+    c.add_end-in-Ok.ensures.adds

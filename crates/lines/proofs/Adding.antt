@@ -1,14 +1,16 @@
 -- Bytes that are added one after another.
-use Rattle.std.proofs.Common.{◌≡◌, ℕ, ◌+◌, ◌≤◌, true, if◌then◌else◌, List, ◌++◌, length, is_ok, is_err, Ok, Err, string_bytes, string_len, string_capacity, Result, String, append_assoc, refl, sym, arith}
+use Rattle.std.proofs.Common.{◌≡◌, ℕ, ◌+◌, ◌≤◌, true, if◌then◌else◌, List, [], ◌++◌, length, is_ok, is_err, Ok, Err, string_bytes, string_len, string_capacity, Result, String, append_assoc, append-nil, refl, sym, arith}
 use Rattle.std.specs.Io.{StartsWith}
 use Rattle.std.proofs.Transfers.{starts_with_of_append, starts_with_trans}
 use Rattle.std.proofs.lemmas.Grind.{common_steps}
-use Rattle.listing.specs.Adding.{Adds}
+use Rattle.lines.specs.Adding.{Adds, AddsInRoom}
 
 -- what `push_str` promises
 pub pushes : {Z X E : Type 0} {was after : String Z} {bytes : List ℕ} (r : Result X E) → string_bytes after ≡ (if is_ok r then string_bytes was ++ bytes else string_bytes was)
-    → string_capacity was ≤ string_capacity after → (string_len was + length bytes ≤ string_capacity was → is_ok r ≡ true) → Adds was after bytes r
-pushes {was = was} {after = after} {bytes = bytes} r b c s = grind (arith, common_steps)
+    → string_capacity was ≤ string_capacity after → (string_len was + length bytes ≤ string_capacity was → is_ok r ≡ true) → AddsInRoom was after bytes r
+pushes {was = was} {after = after} {bytes = bytes} r b c s =
+    let adds : Adds was after bytes r = grind (arith, common_steps) in
+    record { adds = adds; room = grind (arith, common_steps) }
 
 -- a text on the way from `was` to what it is with `all` added: it is `mid`, and `todo` is to come
 pub record OnTheWay {Z : Type 0} (was mid : String Z) (all todo : List ℕ) : Type 0 where
@@ -33,19 +35,20 @@ stop {was = was} {mid = mid} {after = after} {all = all} now rest q g e a i =
     let part = starts_with_trans (string_bytes was ++ all) first (string_bytes after) (starts_with_of_append (string_bytes was ++ all) first rest whole) a.part in
     grind (arith, common_steps, kept, part)
 
+-- that needs no other memory
+pub stop_in_room : {Z X Y E F : Type 0} {was mid after : String Z} {all todo : List ℕ} (now rest : List ℕ) {e : E} (q : Result Y F) → OnTheWay was mid all todo → todo ≡ now ++ rest
+    → AddsInRoom {X = X} mid after now (Err e) → is_err q ≡ true → AddsInRoom was after all q
+stop_in_room {was = was} {mid = mid} {after = after} {all = all} now rest q g e a i =
+    let adds = stop now rest q g e a.adds i in
+    record { adds = adds; room = grind (arith, common_steps) }
+
 -- and an addition that adds the rest, where it succeeded or failed
 pub onward : {Z Y F : Type 0} {was mid after : String Z} {all ys : List ℕ} (q : Result Y F) → OnTheWay was mid all ys → Adds mid after ys q → Adds was after all q
 onward {was = was} {mid = mid} {after = after} {all = all} {ys = ys} q g b =
     let kept = starts_with_trans (string_bytes after) (string_bytes mid) (string_bytes was) b.kept g.kept in
     grind (arith, common_steps, kept)
 
--- two additions are one
-pub more : {Z X Y E F : Type 0} {was mid after : String Z} (xs ys : List ℕ) {x : X} {q : Result Y F} → Adds {E = E} was mid xs (Ok x) → Adds mid after ys q → Adds was after (xs ++ ys) q
-more {was = was} xs ys {q = q} a b = onward q (step xs ys (start was (xs ++ ys)) refl a) b
-
--- and a first one that failed is a part of both
-pub halted : {Z X Y E F : Type 0} {was mid : String Z} (xs ys : List ℕ) {e : E} (q : Result Y F) → Adds {X = X} was mid xs (Err e) → is_err q ≡ true → Adds was mid (xs ++ ys) q
-halted {was = was} xs ys q a i = stop xs ys q (start was (xs ++ ys)) refl a i
-
-pub same_bytes : {Z X E : Type 0} (was after : String Z) (xs ys : List ℕ) (r : Result X E) → xs ≡ ys → Adds was after xs r → Adds was after ys r
-same_bytes was after xs ys r e a = rw (sym e) a
+pub onward_in_room : {Z Y F : Type 0} {was mid after : String Z} {all ys : List ℕ} (q : Result Y F) → OnTheWay was mid all ys → AddsInRoom mid after ys q → AddsInRoom was after all q
+onward_in_room {was = was} {mid = mid} {after = after} {all = all} {ys = ys} q g b =
+    let adds = onward q g b.adds in
+    record { adds = adds; room = grind (arith, common_steps) }

@@ -1,10 +1,10 @@
 -- The pieces of a line, one after another.
 use Rattle.std.proofs.Common.{◌≡◌, ℕ, ◌+◌, ◌<◌, true, List, [], ◌∷◌, ◌++◌, length, get_or, drop, is_err, Ok, Err, Result, String, ap, ◌∙◌, append_assoc}
 use Rattle.std.proofs.lemmas.List.{at_drop_more}
-use Rattle.listing.specs.Adding.{Adds}
-use Rattle.listing.specs.declared.line.Piece.{Piece}
-use Rattle.listing.specs.Lines.{gap, piece_text, spaced_text}
-use Rattle.listing.proofs.Adding.{OnTheWay, step, stop}
+use Rattle.lines.specs.Adding.{AddsInRoom}
+use Rattle.lines.specs.declared.line.Piece.{Piece}
+use Rattle.lines.specs.Lines.{gap, piece_text, spaced_text}
+use Rattle.lines.proofs.Adding.{OnTheWay, step, stop_in_room}
 
 -- before the i-th of the pieces of a line; g is the gap before that one
 module _ (ps : List Piece) (i : ℕ) (d : Piece) where
@@ -16,8 +16,8 @@ module _ (ps : List Piece) (i : ℕ) (d : Piece) where
   gap_first e h = rw e (ap (λ (t : List ℕ). t ++ 10 ∷ []) (at_drop_more (spaced_text i) ps i d h) ∙ simp append_assoc)
 
   module _ {Z : Type 0} {was mid : String Z} {all g : List ℕ} (w : OnTheWay was mid all (spaced_text i (drop i ps) ++ 10 ∷ [])) (e : g ≡ gap i) (h : i < length ps) where
-    pub gap_added : {X E : Type 0} {after : String Z} {x : X} → Adds {E = E} mid after g (Ok x) → OnTheWay was after all from_piece
-    gap_added a = step _ _ w (gap_first e h) a
+    pub gap_added : {X E : Type 0} {after : String Z} {x : X} → AddsInRoom {E = E} mid after g (Ok x) → OnTheWay was after all from_piece
+    gap_added a = step _ _ w (gap_first e h) a.adds
 
-    pub gap_failed : {X Y E F : Type 0} {after : String Z} {x : E} (q : Result Y F) → Adds {X = X} mid after g (Err x) → is_err q ≡ true → Adds was after all q
-    gap_failed q a f = stop _ _ q w (gap_first e h) a f
+    pub gap_failed : {X Y E F : Type 0} {after : String Z} {x : E} (q : Result Y F) → AddsInRoom {X = X} mid after g (Err x) → is_err q ≡ true → AddsInRoom was after all q
+    gap_failed q a f = stop_in_room _ _ q w (gap_first e h) a f

@@ -1,9 +1,6 @@
-// What a line of the listing is made of: words and numbers.
+// What a line is made of.
 ghost use Rattle.std.specs.Prelude.{◌≡◌};
-ghost use Rattle.trace.specs.Contents.{content_of};
-ghost use Rattle.listing.specs.Lines.{word_of, word_text};
-
-use trace::records::Record;
+ghost use Rattle.lines.specs.Lines.{word_text};
 
 #[derive(Clone, Copy, PartialEq, Eq, Debug)]
 pub enum Word {
@@ -14,27 +11,13 @@ pub enum Word {
     Loss,
     Put,
     Read,
+    Drift,
+    Nothing,
+    Refused,
     Bad,
     At,
     End,
     TooLong,
-}
-
-// The word that a record goes by.
-impl From<&Record<'_>> for Word {
-    ghost from_gives = { λ r word. word ≡ word_of (content_of r.now) };
-
-    fn from(record: &Record) -> Word {
-        match record {
-            Record::SetUp { .. } => Word::SetUp,
-            Record::Note { .. } => Word::Note,
-            Record::Send { .. } => Word::Send,
-            Record::Receipt { .. } => Word::Receipt,
-            Record::Loss { .. } => Word::Loss,
-            Record::Put { .. } => Word::Put,
-            Record::Read { .. } => Word::Read,
-        }
-    }
 }
 
 impl Word {
@@ -50,6 +33,9 @@ impl Word {
             Word::Loss => "loss",
             Word::Put => "put",
             Word::Read => "read",
+            Word::Drift => "drift",
+            Word::Nothing => "none",
+            Word::Refused => "refused",
             Word::Bad => "bad",
             Word::At => "at",
             Word::End => "end",
@@ -62,4 +48,14 @@ impl Word {
 pub enum Piece {
     Word(Word),
     Number(u64),
+    Signed(i32),
+    // A stamp's code, which is printed as time.counter.
+    Stamp(u64),
+}
+
+// What stands in a place of an `ArrayVec` that is free.
+impl Default for Piece {
+    fn default() -> Piece {
+        Piece::Number(0)
+    }
 }

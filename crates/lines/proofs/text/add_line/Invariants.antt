@@ -1,9 +1,9 @@
 use Rattle.std.proofs.Common.{◌≡◌, [], ◌∷◌, ◌++◌, drop}
 use denote.Text.{Utf8}
 use denote.Shadow.{shadow}
-use Rattle.listing.specs.Lines.{gap, spaced_text, line_text}
-use Rattle.listing.proofs.Adding.{OnTheWay}
-use Rattle.listing.proofs.text.add_line.Given as goal
+use Rattle.lines.specs.Lines.{gap, spaced_text, line_text}
+use Rattle.lines.proofs.Adding.{OnTheWay}
+use Rattle.lines.proofs.text.add_line.Given as goal
 
 abbrev pub invariant-loop-piece : goal.invariant-loop-piece
 invariant-loop-piece l = record {

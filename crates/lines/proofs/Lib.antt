@@ -1,0 +1,2 @@
+pub mod Adding
+mod Spacing

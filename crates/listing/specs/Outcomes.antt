@@ -1,0 +1,30 @@
+-- The outcomes of records, by the recorder's answers to their calls.
+use Rattle.std.specs.Prelude.{◌≡◌, ℕ, ◌+◌, List, [], ◌∷◌, Ok, Err, Result}
+use Rattle.replay.specs.Calls.{AnswerNumbers}
+use Rattle.replay.specs.declared.call.Call.{Call}
+use Rattle.trace.specs.Contents.{Content}
+use Rattle.listing.specs.Calls.{KeyForm, call_of}
+use Rattle.listing.specs.Lines.{Outcome, accepted_among, answered, refused_among}
+use Rattle.listing.specs.declared.outcomes.Counts.{Counts}
+
+module _ {K : Type 0} where
+  -- of a record with this call, or that was refused before: the next answer (there is one), or the refusal
+  abbrev pub next_outcome : Content → Result (Call K) ℕ → List (AnswerNumbers K) → Outcome
+  next_outcome m (Err refusal) answers = Err refusal
+  next_outcome m (Ok c) [] = Ok []
+  next_outcome m (Ok c) (a ∷ answers) = answered m a
+
+  -- the answers that are left behind it
+  abbrev pub answers_left : Result (Call K) ℕ → List (AnswerNumbers K) → List (AnswerNumbers K)
+  answers_left (Err refusal) answers = answers
+  answers_left (Ok c) [] = []
+  answers_left (Ok c) (a ∷ answers) = answers
+
+  -- of these records, one after another
+  abbrev pub recorded : KeyForm K → List Content → List (AnswerNumbers K) → List Outcome
+  recorded form [] answers = []
+  recorded form (m ∷ ms) answers = next_outcome m (call_of form m) answers ∷ recorded form ms (answers_left (call_of form m) answers)
+
+-- the counts of a set-up that was accepted, and of what came of the records behind it
+abbrev pub AreCounts : List Outcome → Counts → Type 0
+AreCounts outcomes counts = (counts.accepted ≡ 1 + accepted_among outcomes) × (counts.refused ≡ refused_among outcomes)

@@ -1,0 +1,115 @@
+// The run of a trace through a recorder.
+ghost use Rattle.std.specs.Prelude.{◌≡◌, IfOk, map};
+ghost use Rattle.clocks.specs.Highs.{fresh_highs};
+ghost use Rattle.clocks.specs.Settings.{backstep_of};
+ghost use Rattle.lines.specs.Adding.{Adds};
+ghost use Rattle.recorder.specs.Settings.{setting_numbers};
+ghost use Rattle.recorder.specs.State.{fresh_state};
+ghost use Rattle.replay.specs.Calls.{answer_numbers};
+ghost use Rattle.trace.specs.Contents.{content_of};
+ghost use Rattle.listing.specs.Calls.{calls_of};
+ghost use Rattle.listing.specs.Lines.{outcome_lines};
+ghost use Rattle.listing.specs.Machine.{trace_answers};
+ghost use Rattle.listing.specs.Outcomes.{AreCounts};
+ghost use Rattle.listing.specs.SetUp.{set_up_numbers};
+ghost use Rattle.listing.specs.Text.{outcomes, outcomes_for};
+
+use crate::calls::{TraceKey, calls_for};
+use crate::outcomes::{Counts, add_outcomes};
+use crate::setup::{Keys, SetUp};
+use clocks::trace_clocks::TraceClocks;
+use keys::point::Point;
+use keys::tag::Tag;
+use recorder::empty_store::EmptyStore;
+use replay::call::Answer;
+use replay::replay::{Run, replay};
+use search_tree::{Node, SearchTree};
+use sorted_run::SortedRun;
+use std::alloc::{AllocError, Global};
+use store::listable::Listable;
+use store::version::Version;
+use trace::records::Record;
+
+// For so many versions there is room.
+const PLACES: usize = 1024;
+
+// What stands in a place that has no version yet.
+fn blank<K: TraceKey>() -> Version<K> {
+    Version {
+        key: K::any(),
+        stamp: 0,
+        node: 0,
+        value: 0,
+    }
+}
+
+// What a recorder with this store answers to the calls of the records behind a set-up.
+fn answers_for<K: TraceKey, S: Listable<K> + Drop>(
+    heap: Global,
+    setup: SetUp,
+    store: EmptyStore<K, S>,
+    records: &[Record],
+) -> Result<Vec<Answer<K>>, AllocError>
+    ensures { let start = fresh_state (setting_numbers setup.settings) fresh_highs store in
+        let calls = calls_of K.form (map content_of records.now) in
+        IfOk result (λ answers. map answer_numbers answers.items
+            ≡ trace_answers K.cmp (backstep_of setup.backstep) start calls) }
+{
+    let run = Run {
+        calls: calls_for(heap, records)?,
+        closes: false,
+        questions: Vec::new(heap),
+    };
+    let bank = TraceClocks::new(setup.backstep);
+    let mut answers = Vec::new(heap);
+    replay(setup.settings, bank, store, run, &mut answers)?;
+    Ok(answers)
+}
+
+// The lines of the records behind a set-up, and the counts of all records: through a recorder with this store.
+#[tactic(auto, using(crate::proofs::Running::recorded_run, crate::proofs::Running::as_many))]
+fn add_run_in<K: TraceKey, S: Listable<K> + Drop>(
+    text: &mut String,
+    heap: Global,
+    setup: SetUp,
+    store: EmptyStore<K, S>,
+    records: &[Record],
+) -> Result<Counts, AllocError>
+    ensures text { let start = fresh_state (setting_numbers setup.settings) fresh_highs store in
+        let all = outcomes K.form K.cmp (backstep_of setup.backstep) start (map content_of records.now) in
+        Adds text.old text.new (outcome_lines 2 all) result }
+    ensures counts { let start = fresh_state (setting_numbers setup.settings) fresh_highs store in
+        let all = outcomes K.form K.cmp (backstep_of setup.backstep) start (map content_of records.now) in
+        IfOk result (AreCounts all) }
+{
+    let answers = answers_for(heap, setup, store, records)?;
+    add_outcomes(text, records, &answers)
+}
+
+// The same through a recorder of the set-up's kind of keys.
+pub(crate) fn add_run(
+    text: &mut String,
+    heap: Global,
+    setup: SetUp,
+    records: &[Record],
+) -> Result<Counts, AllocError>
+    ensures text { let all = outcomes_for setup.keys (set_up_numbers setup) (map content_of records.now) in
+        Adds text.old text.new (outcome_lines 2 all) result }
+    ensures counts { let all = outcomes_for setup.keys (set_up_numbers setup) (map content_of records.now) in
+        IfOk result (AreCounts all) }
+{
+    match setup.keys {
+        Keys::Points => {
+            let mut places = [blank::<Point>(); PLACES];
+            let store = SortedRun::new(&mut places).unwrap();
+            let store = EmptyStore::new(store).unwrap();
+            add_run_in(text, heap, setup, store, records)
+        }
+        Keys::Tags => {
+            let mut nodes = [Node::new(blank::<Tag>()); PLACES];
+            let store = SearchTree::new(&mut nodes).unwrap();
+            let store = EmptyStore::new(store).unwrap();
+            add_run_in(text, heap, setup, store, records)
+        }
+    }
+}

@@ -1,0 +1,67 @@
+// The set-up of a trace.
+ghost use Rattle.std.specs.Prelude.{◌≡◌};
+ghost use Rattle.refusals.specs.Refusals.{result_map, shown};
+ghost use Rattle.trace.specs.Contents.{content_of};
+
+use clocks::backstep::Backstep;
+use recorder::settings::Settings;
+use refusals::refusal::Refusal;
+use trace::records::Record;
+
+// The kind of a trace's keys.
+#[derive(Clone, Copy, PartialEq, Eq, Debug)]
+pub(crate) enum Keys {
+    Points,
+    Tags,
+}
+
+// Refused with 4 above 1.
+impl TryFrom<u8> for Keys {
+    ghost use Rattle.listing.specs.SetUp.{keys_answer};
+
+    type Error = Refusal;
+
+    ghost try_from_gives = { λ byte result. shown result ≡ keys_answer byte };
+
+    fn try_from(byte: u8) -> Result<Keys, Refusal> {
+        match byte {
+            0 => Ok(Keys::Points),
+            1 => Ok(Keys::Tags),
+            _ => Err(Refusal::SettingOutOfRange),
+        }
+    }
+}
+
+#[derive(Clone, Copy, Debug)]
+pub(crate) struct SetUp {
+    pub(crate) settings: Settings,
+    pub(crate) keys: Keys,
+    pub(crate) backstep: Backstep,
+}
+
+// Refused with 5 where the record is none, then with 4 where a number is out of its range.
+impl TryFrom<&Record<'_>> for SetUp {
+    ghost use Rattle.listing.specs.SetUp.{set_up_answer, set_up_numbers};
+
+    type Error = Refusal;
+
+    ghost try_from_gives = { λ r result.
+        shown (result_map set_up_numbers result) ≡ set_up_answer (content_of r.now) };
+
+    fn try_from(record: &Record<'_>) -> Result<SetUp, Refusal> {
+        let &Record::SetUp {
+            nodes,
+            key_kind,
+            lead,
+            backstep,
+        } = record
+        else {
+            return Err(Refusal::MisplacedSetUp);
+        };
+        Ok(SetUp {
+            settings: Settings::new(nodes, lead)?,
+            keys: Keys::try_from(key_kind)?,
+            backstep: Backstep::new(backstep)?,
+        })
+    }
+}

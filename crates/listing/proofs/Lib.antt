@@ -4,4 +4,3 @@ mod Machine
 mod Progress
 mod Running
 mod Splitting
-mod Machine

@@ -5,4 +5,3 @@ pub mod Outcomes
 pub mod Reading
 pub mod SetUp
 pub mod Text
-pub mod Machine

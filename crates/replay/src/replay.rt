@@ -65,7 +65,8 @@ fn ask_all<K: KeyKind, R: Asked<K>>(
     answers: &mut Vec<Answer<K>>,
 )
     requires { vec_len answers.old + length questions.items ≤ vec_capacity answers.old }
-    ensures { GainsEach (R.answer recorder.now) questions.items answers.old.items answers.new.items }
+    ensures capacity { vec_capacity answers.new ≡ vec_capacity answers.old }
+    ensures each { GainsEach (R.answer recorder.now) questions.items answers.old.items answers.new.items }
 {
     for question in questions {
         answers.push_reserved(recorder.ask(question));
@@ -79,7 +80,8 @@ fn give<B: ClockBank + Drop, K: KeyKind, S: Listable<K> + Drop>(
     answers: &mut Vec<Answer<K>>,
 )
     requires { vec_len answers.old + (length run.calls.items + length run.questions.items) ≤ vec_capacity answers.old }
-    ensures { WasGiven K.cmp B.meaning B.beside recorder run answers.old.items answers.new.items }
+    ensures capacity { vec_capacity answers.new ≡ vec_capacity answers.old }
+    ensures given { WasGiven K.cmp B.meaning B.beside recorder run answers.old.items answers.new.items }
 {
     apply_all(&mut recorder, run.calls, answers);
     if run.closes {
@@ -104,6 +106,7 @@ pub fn replay<B: ClockBank + Drop, K: KeyKind, S: Listable<K> + Drop>(
     ensures stays { OnErr result (answers.new.items ≡ answers.old.items) }
     ensures room { vec_len answers.old + (length run.calls.items + length run.questions.items)
         ≤ vec_capacity answers.old → IsOk result }
+    ensures capacity { vec_capacity answers.old ≤ vec_capacity answers.new }
 {
     answers.reserve(run.calls.len() + run.questions.len())?;
     give(Open::new(settings, bank, store), run, answers);

@@ -46,3 +46,8 @@ Taken (Err number) node old new = new ≡ old
 abbrev pub TakenBelow : Result ℕ ℕ → ℕ → ℕ → Meaning → Meaning → Type 0
 TakenBelow (Ok reading) node raw old new = Taken (look_answer old node raw) node old new
 TakenBelow (Err number) node raw old new = new ≡ old
+
+-- What else a layer's take does in the bank below, by the layer's answer.
+abbrev pub BesideBelow : {S B : Type 0} (beside : S → Result ℕ ℕ → B → B → Type 0) → S → Result ℕ ℕ → Result ℕ ℕ → B → B → Type 0
+BesideBelow beside sample (Ok reading) below old new = beside sample below old new
+BesideBelow beside sample (Err number) below old new = new ≡ old

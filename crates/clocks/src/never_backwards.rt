@@ -1,6 +1,6 @@
 // The never-backwards layer: answers the larger of the reading below and its own high.
 ghost use Rattle.std.specs.Prelude.{◌≡◌};
-ghost use Rattle.clocks.specs.Bank.{TakenBelow};
+ghost use Rattle.clocks.specs.Bank.{BesideBelow, TakenBelow, look_answer};
 ghost use Rattle.clocks.specs.Highs.{high_limited, highs_of};
 ghost use Rattle.clocks.specs.NeverBackwards.{bank_below, fresh_rising, rising_meaning};
 ghost use Rattle.std.proofs.Common.{rules};
@@ -36,7 +36,9 @@ impl<B: ClockBank> ClockBank for NeverBackwards<B> {
 
     // The bank below is taken from as well.
     ghost beside = { λ sample answer old new.
-        TakenBelow answer sample.node sample.raw.0 (B.meaning (bank_below old)) (B.meaning (bank_below new)) };
+        TakenBelow answer sample.node sample.raw.0 (B.meaning (bank_below old)) (B.meaning (bank_below new))
+        × BesideBelow B.beside sample answer
+            (look_answer (B.meaning (bank_below old)) sample.node sample.raw.0) (bank_below old) (bank_below new) };
 
     ghost lawful = { Prim.search (rules, high_limited) };
 

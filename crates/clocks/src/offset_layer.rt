@@ -1,6 +1,6 @@
 // The offset layer: adds a signed number of milliseconds for each node to the bank below.
 ghost use Rattle.std.specs.Prelude.{◌≡◌};
-ghost use Rattle.clocks.specs.Bank.{TakenBelow};
+ghost use Rattle.clocks.specs.Bank.{BesideBelow, TakenBelow, look_answer};
 ghost use Rattle.clocks.specs.OffsetLayer.{bank_below, offset_meaning, offsets_of};
 ghost use Rattle.std.proofs.Common.{rules};
 
@@ -32,6 +32,8 @@ impl<B: ClockBank> ClockBank for OffsetLayer<B> {
     // The bank below is taken from where this layer answers a reading, and the offsets stay.
     ghost beside = { λ sample answer old new.
         TakenBelow answer sample.node sample.raw.0 (B.meaning (bank_below old)) (B.meaning (bank_below new))
+        × BesideBelow B.beside sample answer
+            (look_answer (B.meaning (bank_below old)) sample.node sample.raw.0) (bank_below old) (bank_below new)
         × (offsets_of new ≡ offsets_of old) };
 
     ghost lawful = { Prim.search rules };

@@ -97,7 +97,7 @@ module _ {B K : Type 0} (order : K → K → Ordering) (highs : B → ℕ → �
       → answers ++ trace_answers order kept (by_highs highs s) rest
       ≡ trace_answers order kept (by_highs highs start) (calls ++ rest))
 
-  step : {s next : State B K} {c : Call K} {a : AnswerNumbers K} → IsStep order meaning s c a next
+  step : {beside : Sample → Result ℕ ℕ → B → B → Type 0} {s next : State B K} {c : Call K} {a : AnswerNumbers K} → IsStep order meaning beside s c a next
       → Follows (backstep s.bank) s (c ∷ []) (a ∷ []) next
   step {s} {next} {c} is =
       let bank = taken_bank s next.bank c is.reading in
@@ -105,8 +105,8 @@ module _ {B K : Type 0} (order : K → K → Ordering) (highs : B → ℕ → �
       ∙ ap (after_call order (clocks s) (by_highs highs s) c) bank.0 in
       (bank.1, λ rest. rw (is.answer, same_answer s c, change) refl)
 
-  follows : {start end : State B K} {calls : List (Call K)} {answers : List (AnswerNumbers K)} {told : List (Entry K)}
-      → IsRun order meaning start calls answers told end → Follows (backstep start.bank) start calls answers end
+  follows : {beside : Sample → Result ℕ ℕ → B → B → Type 0} {start end : State B K} {calls : List (Call K)} {answers : List (AnswerNumbers K)} {told : List (Entry K)}
+      → IsRun order meaning beside start calls answers told end → Follows (backstep start.bank) start calls answers end
   follows NoCall = (refl, λ rest. refl)
   follows {end = next} (OneMore {calls} {answers} {s = s} {c = c} {a} run is) =
       let before = follows run in
@@ -116,22 +116,22 @@ module _ {B K : Type 0} (order : K → K → Ordering) (highs : B → ℕ → �
       (one.0, λ rest. rw (append_assoc answers (a ∷ []) _, append_assoc calls (c ∷ []) rest) (all rest))
 
 -- Where a bank means trace clocks, with these highs and this backstep, a run's answers are the one list that these give.
-pub traced : {B K : Type 0} (order : K → K → Ordering) (meaning : B → Meaning) (highs : B → ℕ → ℕ) (backstep : B → ℕ)
+pub traced : {B K : Type 0} {beside : Sample → Result ℕ ℕ → B → B → Type 0} (order : K → K → Ordering) (meaning : B → Meaning) (highs : B → ℕ → ℕ) (backstep : B → ℕ)
     → ((bank : B) → meaning bank ≡ trace_meaning (highs bank) (backstep bank))
     → (start : State B K) (calls : List (Call K)) (answers : List (AnswerNumbers K)) (told : List (Entry K)) (end : State B K)
-    → IsRun order meaning start calls answers told end
+    → IsRun order meaning beside start calls answers told end
     → answers ≡ trace_answers order (backstep start.bank) (by_highs highs start) calls
-traced order meaning highs backstep shaped start calls answers told end run =
-    let as_shaped = subst (λ m. IsRun order m start calls answers told end) (λ i bank. shaped bank i) run in
+traced {beside = beside} order meaning highs backstep shaped start calls answers told end run =
+    let as_shaped = subst (λ m. IsRun order m beside start calls answers told end) (λ i bank. shaped bank i) run in
     let all = follows order highs backstep as_shaped in
     rw (append-nil answers, append-nil calls) at (all.1 [])
 
 -- so from clocks of which nothing was taken yet, as a call of `replay` begins
-pub traced_from_fresh : {B K : Type 0} (order : K → K → Ordering) (meaning : B → Meaning)
+pub traced_from_fresh : {B K : Type 0} {beside : Sample → Result ℕ ℕ → B → B → Type 0} (order : K → K → Ordering) (meaning : B → Meaning)
     → ((bank : B) → meaning bank ≡ trace_meaning (λ node. (meaning bank node).high) (meaning bank 0).backstep)
     → (settings : SettingNumbers) (bank : B) (contents : Contents K) (backstep : ℕ) → meaning bank ≡ fresh_trace backstep
     → (calls : List (Call K)) (answers : List (AnswerNumbers K)) (told : List (Entry K)) (end : State B K)
-    → IsRun order meaning (fresh_state settings bank contents) calls answers told end
+    → IsRun order meaning beside (fresh_state settings bank contents) calls answers told end
     → answers ≡ trace_answers order backstep (fresh_state settings fresh_highs contents) calls
 traced_from_fresh order meaning shaped settings bank contents backstep fresh calls answers told end run =
     subst (λ m. answers ≡ trace_answers order (m 0).backstep (fresh_state settings (λ node. (m node).high) contents) calls) fresh

@@ -1,7 +1,7 @@
 // The messages under way.
-ghost use Rattle.std.specs.Prelude.{◌≡◌, [], is_some, length, map};
+ghost use Rattle.std.specs.Prelude.{◌≡◌, ◌≤◌, [], is_some, length, map};
 ghost use Rattle.std.specs.Option.{option_copied, option_map};
-ghost use Rattle.messages.specs.Messages.{AreDistinct, after_sending, is_under_way, message_numbers, message_of, sending_answer, without};
+ghost use Rattle.messages.specs.Messages.{AreDistinct, after_sending, is_under_way, message_numbers, message_of, most_under_way, sending_answer, without};
 ghost use Rattle.refusals.specs.Refusals.{shown};
 ghost use Rattle.store.specs.Page.{after_cut, cut_answer};
 
@@ -88,6 +88,7 @@ impl Messages {
         ensures answer { shown result ≡ cut_answer self.now (length rows.old) }
         ensures rows { map message_numbers rows.new ≡ after_cut self.now (map message_numbers rows.old) }
         ensures distinct { AreDistinct self.now }
+        ensures few { length self.now ≤ most_under_way }
     {
         let count = self.under_way.len();
         if rows.len() < count {

@@ -1,9 +1,9 @@
 // The closed recorder.
-ghost use Rattle.std.specs.Prelude.{◌≡◌, length, map};
-ghost use Rattle.messages.specs.Messages.{message_numbers};
+ghost use Rattle.std.specs.Prelude.{◌≡◌, ◌≤◌, length, map};
+ghost use Rattle.messages.specs.Messages.{AreDistinct, message_numbers, most_under_way};
 ghost use Rattle.refusals.specs.Refusals.{shown};
-ghost use Rattle.store.specs.Newest.{newest};
-ghost use Rattle.store.specs.Page.{after_cut, cut_answer, page};
+ghost use Rattle.store.specs.Newest.{IsOnlyAnswer, newest};
+ghost use Rattle.store.specs.Page.{IsOnlyPage, after_cut, cut_answer, page};
 
 use keys::kind::KeyKind;
 use messages::message::Message;
@@ -48,7 +48,8 @@ impl<K: KeyKind, S: VersionStore<K>> Closed<K, S> {
 
     // The version of the key with the largest stamp not above this one, the higher node among equal stamps.
     pub fn read(&self, key: K, stamp: u64) -> Option<Version<K>>
-        ensures { result ≡ newest K.cmp self.now.contents.versions key stamp }
+        ensures newest { result ≡ newest K.cmp self.now.contents.versions key stamp }
+        ensures in_words { IsOnlyAnswer self.now.contents.versions key stamp result }
     {
         self.store.at(key, stamp)
     }
@@ -58,6 +59,8 @@ impl<K: KeyKind, S: VersionStore<K>> Closed<K, S> {
         ensures answer { shown result ≡ cut_answer self.now.messages (length rows.old) }
         ensures rows { map message_numbers rows.new
             ≡ after_cut self.now.messages (map message_numbers rows.old) }
+        ensures distinct { AreDistinct self.now.messages }
+        ensures few { length self.now.messages ≤ most_under_way }
     {
         self.messages.list(rows)
     }
@@ -69,6 +72,8 @@ impl<K: KeyKind, S: Listable<K>> Closed<K, S> {
         ensures answer { shown result
             ≡ cut_answer (page K.cmp self.now.contents.versions stamp) (length rows.old) }
         ensures rows { rows.new ≡ after_cut (page K.cmp self.now.contents.versions stamp) rows.old }
+        ensures in_words { IsOnlyPage K.cmp self.now.contents.versions stamp
+            (page K.cmp self.now.contents.versions stamp) }
     {
         cut(&self.store, stamp, rows)
     }

@@ -1,5 +1,5 @@
 // The open recorder. Each of its calls stands in a file below.
-ghost use Rattle.std.specs.Prelude.{◌≡◌, Err, Ok, if◌then◌else◌};
+ghost use Rattle.std.specs.Prelude.{◌≡◌, [], Err, Ok, if◌then◌else◌};
 ghost use Rattle.recorder.specs.Settings.{setting_numbers};
 ghost use Rattle.recorder.specs.State.{closed_state, fresh_state, is_node};
 ghost use Rattle.refusals.specs.Refusals.{shown};
@@ -55,7 +55,8 @@ impl<B: ClockBank, K: KeyKind, S: VersionStore<K>> Model for Open<B, K, S> {
 impl<B: ClockBank, K: KeyKind, S: VersionStore<K>> Open<B, K, S> {
     // A recorder without any event.
     pub fn new(settings: Settings, bank: B, store: EmptyStore<K, S>) -> Open<B, K, S>
-        ensures { result ≡ fresh_state (setting_numbers settings) bank store }
+        ensures fresh { result ≡ fresh_state (setting_numbers settings) bank store }
+        ensures empty { result.contents.versions ≡ [] }
     {
         Open {
             lead: settings.lead(),

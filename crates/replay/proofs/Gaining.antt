@@ -4,6 +4,8 @@ use Rattle.std.specs.Cmp.{IsTotalOrder}
 use Rattle.std.specs.declared.cmp.Ordering.{Ordering}
 use Rattle.std.specs.Option.{option_to_list}
 use Rattle.std.proofs.lemmas.List.{map-append}
+use Rattle.clocks.specs.declared.sample.Sample.{Sample}
+use Rattle.std.specs.Prelude.{ℕ, Result}
 use Rattle.clocks.specs.Bank.{IsLawful, Meaning}
 use Rattle.keys.specs.Order.{IsKeyOrder}
 use Rattle.recorder.specs.Settings.{SettingNumbers}
@@ -18,13 +20,13 @@ use Rattle.replay.specs.declared.replay.Run.{Run}
 use Rattle.replay.proofs.Whole.{replayed}
 use Rattle.store.specs.Contents.{Contents}
 
-module _ {B K : Type 0} (order : K → K → Ordering) (meaning : B → Meaning) (start : State B K) (before : List (Answer K)) where
-  pub gains_none : GainsRun order meaning start start [] before before
+module _ {B K : Type 0} (order : K → K → Ordering) (meaning : B → Meaning) (beside : Sample → Result ℕ ℕ → B → B → Type 0) (start : State B K) (before : List (Answer K)) where
+  pub gains_none : GainsRun order meaning beside start start [] before before
   gains_none = record { gained = []; list = sym (append-nil before); told = []; run = NoCall }
 
   pub gains_one : {s next : State B K} {calls : List (Call K)} {mid after : List (Answer K)} (c : Call K) (a : Answer K)
-      → GainsRun order meaning start s calls before mid → IsStep order meaning s c (answer_numbers a) next
-      → after ≡ mid ++ a ∷ [] → GainsRun order meaning start next (calls ++ c ∷ []) before after
+      → GainsRun order meaning beside start s calls before mid → IsStep order meaning beside s c (answer_numbers a) next
+      → after ≡ mid ++ a ∷ [] → GainsRun order meaning beside start next (calls ++ c ∷ []) before after
   gains_one {s} c a so_far step is = record {
     gained = so_far.gained ++ a ∷ [];
     list = rw (is, so_far.list) (append_assoc before so_far.gained (a ∷ []));
@@ -46,18 +48,18 @@ module _ {K : Type 0} (answer : Question K → AnswerNumbers K) (before : List (
   }
 
 -- a list that gained the answers to the calls, and then those to the questions
-pub gains_answers : {B K : Type 0} (order : K → K → Ordering) → IsTotalOrder order → IsKeyOrder order → (meaning : B → Meaning)
+pub gains_answers : {B K : Type 0} (order : K → K → Ordering) → IsTotalOrder order → IsKeyOrder order → (meaning : B → Meaning) (beside : Sample → Result ℕ ℕ → B → B → Type 0)
     → ((bank : B) → IsLawful (meaning bank)) → (settings : SettingNumbers) (bank : B) (contents : Contents K)
     → settings.nodes ≤ 16 → contents.versions ≡ [] → (run : Run K) {before after : List (Answer K)}
-    → WasGiven order meaning (fresh_state settings bank contents) run before after
-    → GainsAnswers order meaning (fresh_state settings bank contents) run before after
-gains_answers order total law meaning lawful_bank settings bank contents few empty run {before} given =
+    → WasGiven order meaning beside (fresh_state settings bank contents) run before after
+    → GainsAnswers order meaning beside (fresh_state settings bank contents) run before after
+gains_answers order total law meaning beside lawful_bank settings bank contents few empty run {before} given =
     let calls = given.calls in
     let questions = given.questions in
     record {
       gained = calls.gained ++ questions.gained;
       list = rw (questions.list, calls.list) (append_assoc before calls.gained questions.gained);
-      replayed = replayed order total law meaning lawful_bank settings bank contents few empty run _ _ calls.told given.end calls.run
+      replayed = replayed order total law meaning lawful_bank beside settings bank contents few empty run _ _ calls.told given.end calls.run
           (rw (map-append answer_numbers calls.gained questions.gained, questions.each) refl);
     }
 

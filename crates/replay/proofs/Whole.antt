@@ -170,8 +170,8 @@ module _ {B K : Type 0} (order : K → K → Ordering) (total : IsTotalOrder ord
     step (call.Ask q) bank takes = asked order total law meaning setup before q
 
   -- so that it does at the end of any run
-  pub stands_after : {start s : State B K} {calls : List (Call K)} {answers : List (AnswerNumbers K)} {history : List (Entry K)}
-      → Behind [] start → IsRun order meaning start calls answers history s → Behind history s
+  pub stands_after : {beside : Sample → Result ℕ ℕ → B → B → Type 0} {start s : State B K} {calls : List (Call K)} {answers : List (AnswerNumbers K)} {history : List (Entry K)}
+      → Behind [] start → IsRun order meaning beside start calls answers history s → Behind history s
   stands_after fresh NoCall = fresh
   stands_after {s = next} fresh (OneMore {history = history} {s = s} {c = c} run is) =
       let after = step (stands_after fresh run) c next.bank is.reading in
@@ -179,12 +179,12 @@ module _ {B K : Type 0} (order : K → K → Ordering) (total : IsTotalOrder ord
 
 module _ {B K : Type 0} (order : K → K → Ordering) (total : IsTotalOrder order) (law : IsKeyOrder order)
     (meaning : B → Meaning) (lawful_bank : (bank : B) → IsLawful (meaning bank)) where
-  pub replayed : (settings : SettingNumbers) (bank : B) (contents : Contents K) → settings.nodes ≤ 16 → contents.versions ≡ []
+  pub replayed : (beside : Sample → Result ℕ ℕ → B → B → Type 0) (settings : SettingNumbers) (bank : B) (contents : Contents K) → settings.nodes ≤ 16 → contents.versions ≡ []
       → (run : Run K) (during answers : List (AnswerNumbers K)) (told : List (Entry K)) (end : State B K)
-      → IsRun order meaning (fresh_state settings bank contents) run.calls.items during told end
+      → IsRun order meaning beside (fresh_state settings bank contents) run.calls.items during told end
       → answers ≡ during ++ map (end_answer order meaning run.closes end) run.questions.items
-      → IsReplayed order meaning (fresh_state settings bank contents) run answers
-  replayed settings bank contents few empty run during answers told end calls all =
+      → IsReplayed order meaning beside (fresh_state settings bank contents) run answers
+  replayed beside settings bank contents few empty run during answers told end calls all =
       let setup : Setup = setup_of meaning (fresh_state settings bank contents) in
       let nodes : setup.nodes ≤ 16 = rw (length-replicate settings.nodes zero_stamp) few in
       let fresh = fresh_stands order meaning settings bank contents empty in

@@ -1,5 +1,6 @@
 -- Whole runs, and their law.
-use Rattle.std.specs.Prelude.{◌≡◌, Bool, true, if◌then◌else◌, List, [], ◌∷◌, ◌++◌, length, map}
+use Rattle.clocks.specs.declared.sample.Sample.{Sample}
+use Rattle.std.specs.Prelude.{ℕ, Result, ◌≡◌, Bool, true, if◌then◌else◌, List, [], ◌∷◌, ◌++◌, length, map}
 use Rattle.std.specs.declared.cmp.Ordering.{Ordering}
 use Rattle.std.specs.List.{filter_map}
 use Rattle.clocks.specs.Bank.{Meaning}
@@ -34,18 +35,19 @@ module _ {B K : Type 0} (order : K → K → Ordering) (meaning : B → Meaning)
   abbrev pub whole_history : Run K → List (Entry K) → State B K → List (Entry K)
   whole_history run told end = told ++ end_entries run.closes end run.questions.items
 
+module _ {B K : Type 0} (order : K → K → Ordering) (meaning : B → Meaning) (beside : Sample → Result ℕ ℕ → B → B → Type 0) where
   -- A recorder that stood at `start` gave these answers to a run, and the run keeps the law.
   pub record IsReplayed (start : State B K) (run : Run K) (answers : List (AnswerNumbers K)) : Type 0 where
     -- the answers to the calls, what the history was told of them, and how the recorder stood then
     pub during : List (AnswerNumbers K)
     pub told : List (Entry K)
     pub end : State B K
-    pub calls : IsRun order meaning start run.calls.items during told end
+    pub calls : IsRun order meaning beside start run.calls.items during told end
     -- all answers: first those to the calls, then those to the questions
-    pub all : answers ≡ during ++ map (end_answer run.closes end) run.questions.items
+    pub all : answers ≡ during ++ map (end_answer order meaning run.closes end) run.questions.items
     -- what the run came to is a history, and keeps the law
-    pub written : IsHistory order (setup_of meaning start) (whole_history run told end)
-    pub lawful : IsLawful order (setup_of meaning start) (whole_history run told end)
+    pub written : IsHistory order (setup_of meaning start) (whole_history order meaning run told end)
+    pub lawful : IsLawful order (setup_of meaning start) (whole_history order meaning run told end)
 
 -- A list of answers gained those to these questions, in order.
 pub record GainsEach {K : Type 0} (answer : Question K → AnswerNumbers K) (questions : List (Question K)) (before after : List (Answer K)) : Type 0 where
@@ -54,14 +56,14 @@ pub record GainsEach {K : Type 0} (answer : Question K → AnswerNumbers K) (que
   pub each : map answer_numbers gained ≡ map answer questions
 
 -- A recorder that stood at `start` was given a run: a list gained the answers to the calls, and then those to the questions.
-pub record WasGiven {B K : Type 0} (order : K → K → Ordering) (meaning : B → Meaning) (start : State B K) (run : Run K) (before after : List (Answer K)) : Type 0 where
+pub record WasGiven {B K : Type 0} (order : K → K → Ordering) (meaning : B → Meaning) (beside : Sample → Result ℕ ℕ → B → B → Type 0) (start : State B K) (run : Run K) (before after : List (Answer K)) : Type 0 where
   pub end : State B K
   pub mid : List (Answer K)
-  pub calls : GainsRun order meaning start end run.calls.items before mid
+  pub calls : GainsRun order meaning beside start end run.calls.items before mid
   pub questions : GainsEach (end_answer order meaning run.closes end) run.questions.items mid after
 
 -- A list of answers gained those to a run.
-pub record GainsAnswers {B K : Type 0} (order : K → K → Ordering) (meaning : B → Meaning) (start : State B K) (run : Run K) (before after : List (Answer K)) : Type 0 where
+pub record GainsAnswers {B K : Type 0} (order : K → K → Ordering) (meaning : B → Meaning) (beside : Sample → Result ℕ ℕ → B → B → Type 0) (start : State B K) (run : Run K) (before after : List (Answer K)) : Type 0 where
   pub gained : List (Answer K)
   pub list : after ≡ before ++ gained
-  pub replayed : IsReplayed order meaning start run (map answer_numbers gained)
+  pub replayed : IsReplayed order meaning beside start run (map answer_numbers gained)

@@ -8,7 +8,7 @@ use Rattle.clocks.specs.declared.sample.Sample.{Sample}
 use Rattle.history.specs.Events.{Note, Put, Receipt, Send, What}
 use Rattle.history.specs.History.{Cut, Entered, Entry, Read}
 use Rattle.recorder.specs.Answers.{clock_answer, note_answer, put_answer, receipt_answer, send_answer}
-use Rattle.recorder.specs.Changes.{TookReading}
+use Rattle.recorder.specs.Changes.{TookBeside, TookReading}
 use Rattle.recorder.specs.State.{State, is_settled}
 use Rattle.stamps.specs.Rules.{StampedNumbers}
 use Rattle.replay.specs.Calls.{AnswerNumbers, answer_numbers, CutAnswer, ReadAnswer, after_call, call_answer, question_answer}
@@ -56,22 +56,33 @@ module _ {B K : Type 0} (order : K → K → Ordering) (meaning : B → Meaning)
     TookFor (call.Put sample key value) bank = TookReading meaning sample (put_answer meaning s sample) s.bank bank
     TookFor (call.Ask q) bank = bank ≡ s.bank
 
-    -- One call: its answer, and the recorder then.
-    pub record IsStep (c : Call K) (a : AnswerNumbers K) (next : State B K) : Type 0 where
-      pub answer : a ≡ call_answer order meaning s c
-      pub change : next ≡ after_call order meaning s c next.bank
-      pub reading : TookFor c next.bank
+    -- And did what else a take of this kind of bank does.
+    abbrev pub TookBesideFor : (Sample → Result ℕ ℕ → B → B → Type 0) → Call K → B → Type 0
+    TookBesideFor beside (call.Note sample) bank = TookBeside meaning beside sample (note_answer meaning s sample) s.bank bank
+    TookBesideFor beside (call.Send sample to number) bank = TookBeside meaning beside sample (send_answer meaning s sample to number) s.bank bank
+    TookBesideFor beside (call.Receipt sample number) bank = TookBeside meaning beside sample (receipt_answer meaning s sample number) s.bank bank
+    TookBesideFor beside (call.Loss number) bank = bank ≡ s.bank
+    TookBesideFor beside (call.Put sample key value) bank = TookBeside meaning beside sample (put_answer meaning s sample) s.bank bank
+    TookBesideFor beside (call.Ask q) bank = bank ≡ s.bank
+
+module _ {B K : Type 0} (order : K → K → Ordering) (meaning : B → Meaning) (beside : Sample → Result ℕ ℕ → B → B → Type 0) where
+  -- One call: its answer, and the recorder then.
+  pub record IsStep (s : State B K) (c : Call K) (a : AnswerNumbers K) (next : State B K) : Type 0 where
+    pub answer : a ≡ call_answer order meaning s c
+    pub change : next ≡ after_call order meaning s c next.bank
+    pub reading : TookFor order meaning s c next.bank
+    pub also : TookBesideFor order meaning s beside c next.bank
 
   -- Any list of calls to a recorder that stands at `start`, each with its answer; the history of them; and how the recorder stands then.
   pub data IsRun (start : State B K) : List (Call K) → List (AnswerNumbers K) → List (Entry K) → State B K → Type 0 where
     NoCall : IsRun start [] [] [] start
     OneMore : {calls : List (Call K)} {answers : List (AnswerNumbers K)} {history : List (Entry K)} {s next : State B K} {c : Call K} {a : AnswerNumbers K}
         → IsRun start calls answers history s → IsStep s c a next
-        → IsRun start (calls ++ c ∷ []) (answers ++ a ∷ []) (history ++ option_to_list (call_entry s c)) next
+        → IsRun start (calls ++ c ∷ []) (answers ++ a ∷ []) (history ++ option_to_list (call_entry order meaning s c)) next
 
 -- A list of answers gained those to these calls, which led the recorder from `start` to `end`.
-pub record GainsRun {B K : Type 0} (order : K → K → Ordering) (meaning : B → Meaning) (start end : State B K) (calls : List (Call K)) (before after : List (Answer K)) : Type 0 where
+pub record GainsRun {B K : Type 0} (order : K → K → Ordering) (meaning : B → Meaning) (beside : Sample → Result ℕ ℕ → B → B → Type 0) (start end : State B K) (calls : List (Call K)) (before after : List (Answer K)) : Type 0 where
   pub gained : List (Answer K)
   pub list : after ≡ before ++ gained
   pub told : List (Entry K)
-  pub run : IsRun order meaning start calls (map answer_numbers gained) told end
+  pub run : IsRun order meaning beside start calls (map answer_numbers gained) told end

@@ -28,7 +28,7 @@ fn apply<B: ClockBank, K: KeyKind, S: Listable<K>>(
     recorder: &mut Open<B, K, S>,
     call: Call<K>,
 ) -> Answer<K>
-    ensures { IsStep K.cmp B.meaning recorder.old call (answer_numbers result) recorder.new }
+    ensures { IsStep K.cmp B.meaning B.beside recorder.old call (answer_numbers result) recorder.new }
 {
     match call {
         Call::Note { sample } => Answer::Event(recorder.note(sample)),
@@ -48,7 +48,7 @@ fn apply_all<B: ClockBank, K: KeyKind, S: Listable<K>>(
     answers: &mut Vec<Answer<K>>,
 )
     requires { vec_len answers.old + length calls.items ≤ vec_capacity answers.old }
-    ensures run { GainsRun K.cmp B.meaning recorder.old recorder.new calls.items answers.old.items answers.new.items }
+    ensures run { GainsRun K.cmp B.meaning B.beside recorder.old recorder.new calls.items answers.old.items answers.new.items }
     ensures len { vec_len answers.new ≡ vec_len answers.old + length calls.items }
     ensures capacity { vec_capacity answers.new ≡ vec_capacity answers.old }
 {
@@ -65,7 +65,8 @@ fn ask_all<K: KeyKind, R: Asked<K>>(
     answers: &mut Vec<Answer<K>>,
 )
     requires { vec_len answers.old + length questions.items ≤ vec_capacity answers.old }
-    ensures { GainsEach (R.answer recorder.now) questions.items answers.old.items answers.new.items }
+    ensures capacity { vec_capacity answers.new ≡ vec_capacity answers.old }
+    ensures each { GainsEach (R.answer recorder.now) questions.items answers.old.items answers.new.items }
 {
     for question in questions {
         answers.push_reserved(recorder.ask(question));
@@ -79,7 +80,8 @@ fn give<B: ClockBank + Drop, K: KeyKind, S: Listable<K> + Drop>(
     answers: &mut Vec<Answer<K>>,
 )
     requires { vec_len answers.old + (length run.calls.items + length run.questions.items) ≤ vec_capacity answers.old }
-    ensures { WasGiven K.cmp B.meaning recorder run answers.old.items answers.new.items }
+    ensures capacity { vec_capacity answers.new ≡ vec_capacity answers.old }
+    ensures given { WasGiven K.cmp B.meaning B.beside recorder run answers.old.items answers.new.items }
 {
     apply_all(&mut recorder, run.calls, answers);
     if run.closes {
@@ -100,10 +102,11 @@ pub fn replay<B: ClockBank + Drop, K: KeyKind, S: Listable<K> + Drop>(
     answers: &mut Vec<Answer<K>>,
 ) -> Result<(), AllocError>
     ensures replayed { let start = fresh_state (setting_numbers settings) bank store in
-        OnOk result (GainsAnswers K.cmp B.meaning start run answers.old.items answers.new.items) }
+        OnOk result (GainsAnswers K.cmp B.meaning B.beside start run answers.old.items answers.new.items) }
     ensures stays { OnErr result (answers.new.items ≡ answers.old.items) }
     ensures room { vec_len answers.old + (length run.calls.items + length run.questions.items)
         ≤ vec_capacity answers.old → IsOk result }
+    ensures capacity { vec_capacity answers.old ≤ vec_capacity answers.new }
 {
     answers.reserve(run.calls.len() + run.questions.len())?;
     give(Open::new(settings, bank, store), run, answers);

@@ -1,6 +1,6 @@
 // The list of the messages under way.
-ghost use Rattle.std.specs.Prelude.{◌≡◌, length, map};
-ghost use Rattle.messages.specs.Messages.{message_numbers};
+ghost use Rattle.std.specs.Prelude.{◌≡◌, ◌≤◌, length, map};
+ghost use Rattle.messages.specs.Messages.{AreDistinct, message_numbers, most_under_way};
 ghost use Rattle.refusals.specs.Refusals.{shown};
 ghost use Rattle.store.specs.Page.{after_cut, cut_answer};
 
@@ -18,6 +18,8 @@ impl<B: ClockBank, K: KeyKind, S: VersionStore<K>> Open<B, K, S> {
         ensures answer { shown result ≡ cut_answer self.now.messages (length rows.old) }
         ensures rows { map message_numbers rows.new
             ≡ after_cut self.now.messages (map message_numbers rows.old) }
+        ensures distinct { AreDistinct self.now.messages }
+        ensures few { length self.now.messages ≤ most_under_way }
     {
         self.messages.list(rows)
     }

@@ -1,7 +1,8 @@
 // Reads, and what may be answered.
-ghost use Rattle.std.specs.Prelude.{◌≡◌, Err, Ok, if◌then◌else◌};
+ghost use Rattle.std.specs.Prelude.{◌≡◌, Err, Ok, OnOk, if◌then◌else◌};
 ghost use Rattle.recorder.specs.Answers.{read_answer};
 ghost use Rattle.recorder.specs.State.{is_settled};
+ghost use Rattle.store.specs.Newest.{IsOnlyAnswer, newest};
 ghost use Rattle.refusals.specs.Refusals.{shown};
 
 use crate::open::Open;
@@ -15,7 +16,8 @@ impl<B: ClockBank, K: KeyKind, S: VersionStore<K>> Open<B, K, S> {
     // The version of the key with the largest stamp not above this one, the higher node among equal stamps. Refused with 18 where
     // some node's last stamp is below it, since the answer could still change.
     pub fn read(&self, key: K, stamp: u64) -> Result<Option<Version<K>>, Refusal>
-        ensures { shown result ≡ read_answer self.now K.cmp key stamp }
+        ensures answer { shown result ≡ read_answer self.now K.cmp key stamp }
+        ensures in_words { OnOk result (IsOnlyAnswer self.now.contents.versions key stamp (newest K.cmp self.now.contents.versions key stamp)) }
     {
         self.check_settled(stamp)?;
         Ok(self.store.at(key, stamp))

@@ -8,5 +8,6 @@ invariant-loop-question g l = record {
   finite : (goal.iterator-loop-question g).is_finite l.question-iterator;
   questions : l.yielded ++ l.question-iterator.rest.items ≡ l.fn.questions.items;
   room : vec_len l.answers + length l.question-iterator.rest.items ≤ vec_capacity l.answers;
+  capacity : vec_capacity l.answers ≡ vec_capacity l.fn.answers;
   each : GainsEach (g.R.Asked.answer l.fn.recorder) l.yielded l.fn.answers.items l.answers.items;
 }

@@ -14,7 +14,7 @@ use Rattle.recorder.specs.Changes.{TookReading}
 use Rattle.recorder.specs.Settings.{SettingNumbers}
 use Rattle.recorder.specs.State.{State, fresh_state}
 use Rattle.replay.specs.Calls.{AnswerNumbers, after_call, call_answer}
-use Rattle.replay.specs.Runs.{IsRun, IsStep, NoCall, OneMore, TookFor}
+use Rattle.replay.specs.Runs.{IsRun, IsCalled, NoCall, OneMore, TookFor}
 use Rattle.replay.specs.declared.call.Call.{Call}
 use Rattle.replay.specs.declared.call.Call.TheVariants as call
 use Rattle.stamps.specs.Rules.{StampedNumbers}
@@ -64,7 +64,7 @@ module _ {B K : Type 0} (order : K → K → Ordering) (highs : B → ℕ → �
       stays : bank ≡ s.bank → HasThen (highs s.bank)
       stays same = (ap highs same, ap backstep same)
 
-      module _ (sample : Sample) where
+      module _ (beside : Sample → Result ℕ ℕ → B → B → Type 0) (sample : Sample) where
         -- an event that was accepted has its raw number as its reading
         abbrev raised_for : Result StampedNumbers ℕ → ℕ → ℕ
         raised_for (Ok event) = raised_high sample.node sample.raw.0 (highs s.bank)
@@ -72,24 +72,24 @@ module _ {B K : Type 0} (order : K → K → Ordering) (highs : B → ℕ → �
 
         takes : (answer : Result StampedNumbers ℕ)
             → ((event : StampedNumbers) → answer ≡ Ok event → clock_answer meaning s sample ≡ Ok sample.raw.0)
-            → TookReading meaning sample answer s.bank bank → HasThen (raised_for answer)
+            → TookReading meaning beside sample answer s.bank bank → HasThen (raised_for answer)
         takes (Err refusal) reads same = stays same
         takes (Ok event) reads taken =
-            let took = subst (λ a. Taken a sample.node (meaning s.bank) (meaning bank)) (reads event refl) taken in
+            let took = subst (λ a. Taken a sample.node (meaning s.bank) (meaning bank)) (reads event refl) taken.0 in
             let high : (node : ℕ) → highs bank node ≡ raised_for (Ok event) node = λ node. elim (cases_eq node sample.node) [
               | inl same ↦ rw same (grind (arith, nat_tests, took.0.high))
               | inr other ↦ grind (arith, nat_tests, other, ap (λ c. c.high) (took.1 node other))
             ] in
             (λ i node. high node i, took.0.backstep)
 
-      taken_bank : (c : Call K) → TookFor order meaning s c bank
+      taken_bank : (beside : Sample → Result ℕ ℕ → B → B → Type 0) (c : Call K) → TookFor order meaning beside s c bank
           → HasThen (highs_after order (backstep s.bank) with_highs c)
-      taken_bank (call.Note sample) = takes sample _ (λ event is. grind (arith, nat_tests, is))
-      taken_bank (call.Send sample to number) = takes sample _ (λ event is. grind (arith, nat_tests, is))
-      taken_bank (call.Receipt sample number) = takes sample _ (λ event is. grind (arith, nat_tests, is))
-      taken_bank (call.Loss number) = stays
-      taken_bank (call.Put sample key value) = takes sample _ (λ event is. grind (arith, nat_tests, is))
-      taken_bank (call.Ask question) = stays
+      taken_bank beside (call.Note sample) = takes beside sample _ (λ event is. grind (arith, nat_tests, is))
+      taken_bank beside (call.Send sample to number) = takes beside sample _ (λ event is. grind (arith, nat_tests, is))
+      taken_bank beside (call.Receipt sample number) = takes beside sample _ (λ event is. grind (arith, nat_tests, is))
+      taken_bank beside (call.Loss number) = stays
+      taken_bank beside (call.Put sample key value) = takes beside sample _ (λ event is. grind (arith, nat_tests, is))
+      taken_bank beside (call.Ask question) = stays
 
   -- the backstep is kept, and these answers and those from `s` on are all those from `start` on
   abbrev Follows : ℕ → State B K → List (Call K) → List (AnswerNumbers K) → State B K → Type 0
@@ -97,10 +97,10 @@ module _ {B K : Type 0} (order : K → K → Ordering) (highs : B → ℕ → �
       → answers ++ trace_answers order kept (by_highs highs s) rest
       ≡ trace_answers order kept (by_highs highs start) (calls ++ rest))
 
-  step : {beside : Sample → Result ℕ ℕ → B → B → Type 0} {s next : State B K} {c : Call K} {a : AnswerNumbers K} → IsStep order meaning beside s c a next
+  step : {beside : Sample → Result ℕ ℕ → B → B → Type 0} {s next : State B K} {c : Call K} {a : AnswerNumbers K} → IsCalled order meaning beside s c a next
       → Follows (backstep s.bank) s (c ∷ []) (a ∷ []) next
-  step {s} {next} {c} is =
-      let bank = taken_bank s next.bank c is.reading in
+  step {beside} {s} {next} {c} is =
+      let bank = taken_bank s next.bank beside c is.reading in
       let change = ap (by_highs highs) is.change ∙ same_change s next.bank c
       ∙ ap (after_call order (clocks s) (by_highs highs s) c) bank.0 in
       (bank.1, λ rest. rw (is.answer, same_answer s c, change) refl)

@@ -11,8 +11,9 @@ use Rattle.keys.specs.Order.{IsKeyOrder}
 use Rattle.recorder.specs.Settings.{SettingNumbers}
 use Rattle.recorder.specs.State.{ClosedState, State, closed_state, fresh_state, is_settled}
 use Rattle.replay.specs.Calls.{AnswerNumbers, answer_numbers, question_answer}
-use Rattle.replay.specs.Replay.{GainsAnswers, GainsEach, WasGiven, end_answer}
-use Rattle.replay.specs.Runs.{GainsRun, IsStep, NoCall, OneMore, call_entry}
+use Rattle.replay.specs.Replay.{GainsAnswers, end_answer}
+use Rattle.replay.specs.Runs.{IsCalled, NoCall, OneMore, call_entry}
+use Rattle.replay.specs.Within.{GainsEach, GainsRun, WasGiven}
 use Rattle.replay.specs.declared.call.Answer.{Answer}
 use Rattle.replay.specs.declared.call.Call.{Call}
 use Rattle.replay.specs.declared.call.Question.{Question}
@@ -25,7 +26,7 @@ module _ {B K : Type 0} (order : K → K → Ordering) (meaning : B → Meaning)
   gains_none = record { gained = []; list = sym (append-nil before); told = []; run = NoCall }
 
   pub gains_one : {s next : State B K} {calls : List (Call K)} {mid after : List (Answer K)} (c : Call K) (a : Answer K)
-      → GainsRun order meaning beside start s calls before mid → IsStep order meaning beside s c (answer_numbers a) next
+      → GainsRun order meaning beside start s calls before mid → IsCalled order meaning beside s c (answer_numbers a) next
       → after ≡ mid ++ a ∷ [] → GainsRun order meaning beside start next (calls ++ c ∷ []) before after
   gains_one {s} c a so_far step is = record {
     gained = so_far.gained ++ a ∷ [];

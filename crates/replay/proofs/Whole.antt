@@ -58,7 +58,7 @@ module _ {B K : Type 0} (order : K → K → Ordering) (total : IsTotalOrder ord
     unchanged = rw (append-nil history) before
 
     -- a sample's node did this, and it got this answer; the bank is then this one
-    module _ (sample : Sample) (bank : B) where
+    module _ (beside : Sample → Result ℕ ℕ → B → B → Type 0) (sample : Sample) (bank : B) where
       module _ (what : What K) (answered : StampedNumbers) where
         abbrev the_event : Event K
         the_event = record {
@@ -70,7 +70,7 @@ module _ {B K : Type 0} (order : K → K → Ordering) (total : IsTotalOrder ord
 
         -- an event that got the stamp of this rule at its reading
         by_rule : {messages : List MessageNumbers} {contents : Contents K} (rule : ℕ → Timestamp)
-            → TookReading meaning sample (Ok answered) s.bank bank → is_node s sample.node ≡ true
+            → TookReading meaning beside sample (Ok answered) s.bank bank → is_node s sample.node ≡ true
             → at_reading (λ reading. event_answer (rule reading) reading) (clock_answer meaning s sample) ≡ Ok answered
             → (answered.stamp ≡ rule the_event.reading → IsStamped setup.lead (events_of history) the_event what)
             → IsNext order s the_event messages contents
@@ -83,14 +83,14 @@ module _ {B K : Type 0} (order : K → K → Ordering) (total : IsTotalOrder ord
               node = grind (arith, nat_tests, node);
               raw = sample.raw.0;
               clock = clock;
-              taken = subst (λ c. Taken c sample.node (meaning s.bank) (meaning bank)) clock takes;
+              taken = subst (λ c. Taken c sample.node (meaning s.bank) (meaning bank)) clock takes.0;
               counter = is.1;
             } in
             entered order meaning setup lawful_bank few before accepted (stamped is.0) next
 
       -- where it is the answer, the recorder stands so behind what the history is told
       abbrev Then : What K → Result StampedNumbers ℕ → Result StampedNumbers ℕ → State B K → Type 0
-      Then what the_answer answer next = the_answer ≡ answer → TookReading meaning sample answer s.bank bank
+      Then what the_answer answer next = the_answer ≡ answer → TookReading meaning beside sample answer s.bank bank
           → Behind (history ++ option_to_list (event_entry order meaning s sample what answer)) next
 
       -- the rule of an event behind the node's last one
@@ -160,22 +160,22 @@ module _ {B K : Type 0} (order : K → K → Ordering) (total : IsTotalOrder ord
     })
 
     -- any call leaves it standing so
-    step : (c : Call K) (bank : B) → TookFor order meaning s c bank
+    step : (beside : Sample → Result ℕ ℕ → B → B → Type 0) (c : Call K) (bank : B) → TookFor order meaning beside s c bank
         → Behind (history ++ option_to_list (call_entry order meaning s c)) (after_call order meaning s c bank)
-    step (call.Note sample) bank takes = note sample bank _ refl takes
-    step (call.Send sample to number) bank takes = send sample bank to number _ refl takes
-    step (call.Receipt sample number) bank takes = receipt sample bank number _ _ refl refl takes
-    step (call.Loss number) bank takes = loss number _
-    step (call.Put sample key value) bank takes = put sample bank key value _ refl takes
-    step (call.Ask q) bank takes = asked order total law meaning setup before q
+    step beside (call.Note sample) bank takes = note beside sample bank _ refl takes
+    step beside (call.Send sample to number) bank takes = send beside sample bank to number _ refl takes
+    step beside (call.Receipt sample number) bank takes = receipt beside sample bank number _ _ refl refl takes
+    step beside (call.Loss number) bank takes = loss number _
+    step beside (call.Put sample key value) bank takes = put beside sample bank key value _ refl takes
+    step beside (call.Ask q) bank takes = asked order total law meaning setup before q
 
   -- so that it does at the end of any run
   pub stands_after : {beside : Sample → Result ℕ ℕ → B → B → Type 0} {start s : State B K} {calls : List (Call K)} {answers : List (AnswerNumbers K)} {history : List (Entry K)}
       → Behind [] start → IsRun order meaning beside start calls answers history s → Behind history s
   stands_after fresh NoCall = fresh
-  stands_after {s = next} fresh (OneMore {history = history} {s = s} {c = c} run is) =
-      let after = step (stands_after fresh run) c next.bank is.reading in
-      subst (Behind (history ++ option_to_list (call_entry order meaning s c))) (sym is.change) after
+  stands_after {beside} {s = next} fresh (OneMore {told = told} {s = s} {c = c} run is) =
+      let after = step (stands_after fresh run) beside c next.bank is.reading in
+      subst (Behind (told ++ option_to_list (call_entry order meaning s c))) (sym is.change) after
 
 module _ {B K : Type 0} (order : K → K → Ordering) (total : IsTotalOrder order) (law : IsKeyOrder order)
     (meaning : B → Meaning) (lawful_bank : (bank : B) → IsLawful (meaning bank)) where

@@ -1,18 +1,17 @@
 -- Runs: any list of calls, one after another, and the history that they come to.
-use Rattle.std.specs.Prelude.{◌≡◌, ℕ, List, [], ◌∷◌, ◌++◌, map, take, Some, None, Ok, Err, Option, Result}
+use Rattle.std.specs.Prelude.{◌≡◌, ℕ, List, [], ◌∷◌, ◌++◌, take, Some, None, Ok, Err, Option, Result}
 use Rattle.std.specs.declared.cmp.Ordering.{Ordering}
 use Rattle.std.specs.Option.{option_to_list}
 use Rattle.std.specs.Result.{result_unwrap_or}
-use Rattle.clocks.specs.Bank.{Meaning, Taken}
+use Rattle.clocks.specs.Bank.{Meaning}
 use Rattle.clocks.specs.declared.sample.Sample.{Sample}
 use Rattle.history.specs.Events.{Note, Put, Receipt, Send, What}
 use Rattle.history.specs.History.{Cut, Entered, Entry, Read}
 use Rattle.recorder.specs.Answers.{clock_answer, note_answer, put_answer, receipt_answer, send_answer}
-use Rattle.recorder.specs.Changes.{TookBeside, TookReading}
+use Rattle.recorder.specs.Changes.{TookReading}
 use Rattle.recorder.specs.State.{State, is_settled}
 use Rattle.stamps.specs.Rules.{StampedNumbers}
-use Rattle.replay.specs.Calls.{AnswerNumbers, answer_numbers, CutAnswer, ReadAnswer, after_call, call_answer, question_answer}
-use Rattle.replay.specs.declared.call.Answer.{Answer}
+use Rattle.replay.specs.Calls.{AnswerNumbers, CutAnswer, ReadAnswer, after_call, call_answer, question_answer}
 use Rattle.replay.specs.declared.call.Call.{Call}
 use Rattle.replay.specs.declared.call.Call.TheVariants as call
 use Rattle.replay.specs.declared.call.Question.{Question}
@@ -47,42 +46,31 @@ module _ {B K : Type 0} (order : K → K → Ordering) (meaning : B → Meaning)
     call_entry (call.Put sample key value) = event_entry sample (Put key value) (put_answer meaning s sample)
     call_entry (call.Ask q) = question_entry q (question_answer order (is_settled s) s.contents s.messages q)
 
-    -- A call took the reading of its event from the bank, which is then this one; without an accepted event the bank stayed.
+  module _ (beside : Sample → Result ℕ ℕ → B → B → Type 0) (s : State B K) where
+    -- what became of the bank, which is then this one: an event that was accepted took its reading, and else the bank stayed
     abbrev pub TookFor : Call K → B → Type 0
-    TookFor (call.Note sample) bank = TookReading meaning sample (note_answer meaning s sample) s.bank bank
-    TookFor (call.Send sample to number) bank = TookReading meaning sample (send_answer meaning s sample to number) s.bank bank
-    TookFor (call.Receipt sample number) bank = TookReading meaning sample (receipt_answer meaning s sample number) s.bank bank
+    TookFor (call.Note sample) bank = TookReading meaning beside sample (note_answer meaning s sample) s.bank bank
+    TookFor (call.Send sample to number) bank =
+        TookReading meaning beside sample (send_answer meaning s sample to number) s.bank bank
+    TookFor (call.Receipt sample number) bank =
+        TookReading meaning beside sample (receipt_answer meaning s sample number) s.bank bank
     TookFor (call.Loss number) bank = bank ≡ s.bank
-    TookFor (call.Put sample key value) bank = TookReading meaning sample (put_answer meaning s sample) s.bank bank
+    TookFor (call.Put sample key value) bank = TookReading meaning beside sample (put_answer meaning s sample) s.bank bank
     TookFor (call.Ask q) bank = bank ≡ s.bank
 
-    -- And did what else a take of this kind of bank does.
-    abbrev pub TookBesideFor : (Sample → Result ℕ ℕ → B → B → Type 0) → Call K → B → Type 0
-    TookBesideFor beside (call.Note sample) bank = TookBeside meaning beside sample (note_answer meaning s sample) s.bank bank
-    TookBesideFor beside (call.Send sample to number) bank = TookBeside meaning beside sample (send_answer meaning s sample to number) s.bank bank
-    TookBesideFor beside (call.Receipt sample number) bank = TookBeside meaning beside sample (receipt_answer meaning s sample number) s.bank bank
-    TookBesideFor beside (call.Loss number) bank = bank ≡ s.bank
-    TookBesideFor beside (call.Put sample key value) bank = TookBeside meaning beside sample (put_answer meaning s sample) s.bank bank
-    TookBesideFor beside (call.Ask q) bank = bank ≡ s.bank
+    -- One call to a recorder: its answer, and how the recorder stands next.
+    pub record IsCalled (c : Call K) (a : AnswerNumbers K) (next : State B K) : Type 0 where
+      pub answer : a ≡ call_answer order meaning s c
+      pub change : next ≡ after_call order meaning s c next.bank
+      pub reading : TookFor c next.bank
 
-module _ {B K : Type 0} (order : K → K → Ordering) (meaning : B → Meaning) (beside : Sample → Result ℕ ℕ → B → B → Type 0) where
-  -- One call: its answer, and the recorder then.
-  pub record IsStep (s : State B K) (c : Call K) (a : AnswerNumbers K) (next : State B K) : Type 0 where
-    pub answer : a ≡ call_answer order meaning s c
-    pub change : next ≡ after_call order meaning s c next.bank
-    pub reading : TookFor order meaning s c next.bank
-    pub also : TookBesideFor order meaning s beside c next.bank
-
-  -- Any list of calls to a recorder that stands at `start`, each with its answer; the history of them; and how the recorder stands then.
-  pub data IsRun (start : State B K) : List (Call K) → List (AnswerNumbers K) → List (Entry K) → State B K → Type 0 where
-    NoCall : IsRun start [] [] [] start
-    OneMore : {calls : List (Call K)} {answers : List (AnswerNumbers K)} {history : List (Entry K)} {s next : State B K} {c : Call K} {a : AnswerNumbers K}
-        → IsRun start calls answers history s → IsStep s c a next
-        → IsRun start (calls ++ c ∷ []) (answers ++ a ∷ []) (history ++ option_to_list (call_entry order meaning s c)) next
-
--- A list of answers gained those to these calls, which led the recorder from `start` to `end`.
-pub record GainsRun {B K : Type 0} (order : K → K → Ordering) (meaning : B → Meaning) (beside : Sample → Result ℕ ℕ → B → B → Type 0) (start end : State B K) (calls : List (Call K)) (before after : List (Answer K)) : Type 0 where
-  pub gained : List (Answer K)
-  pub list : after ≡ before ++ gained
-  pub told : List (Entry K)
-  pub run : IsRun order meaning beside start calls (map answer_numbers gained) told end
+  -- Any list of calls to a recorder that stands at `start`, each with its answer; what the history is told of them; and how the
+  -- recorder stands then.
+  module _ (beside : Sample → Result ℕ ℕ → B → B → Type 0) (start : State B K) where
+    pub data IsRun : List (Call K) → List (AnswerNumbers K) → List (Entry K) → State B K → Type 0 where
+      NoCall : IsRun [] [] [] start
+      OneMore :
+          {calls : List (Call K)} {answers : List (AnswerNumbers K)} {told : List (Entry K)} {s next : State B K}
+          {c : Call K} {a : AnswerNumbers K}
+          → IsRun calls answers told s → IsCalled beside s c a next
+          → IsRun (calls ++ c ∷ []) (answers ++ a ∷ []) (told ++ option_to_list (call_entry s c)) next

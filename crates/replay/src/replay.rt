@@ -3,8 +3,9 @@ ghost use Rattle.std.specs.Prelude.{◌≡◌, ◌+◌, ◌≤◌, length, vec_l
 ghost use Rattle.recorder.specs.Settings.{setting_numbers};
 ghost use Rattle.recorder.specs.State.{fresh_state};
 ghost use Rattle.replay.specs.Calls.{answer_numbers};
-ghost use Rattle.replay.specs.Replay.{GainsAnswers, GainsEach, WasGiven};
-ghost use Rattle.replay.specs.Runs.{GainsRun, IsStep};
+ghost use Rattle.replay.specs.Replay.{GainsAnswers};
+ghost use Rattle.replay.specs.Runs.{IsCalled};
+ghost use Rattle.replay.specs.Within.{GainsEach, GainsRun, WasGiven};
 
 use crate::ask::Asked;
 use crate::call::{Answer, Call, Question};
@@ -28,7 +29,7 @@ fn apply<B: ClockBank, K: KeyKind, S: Listable<K>>(
     recorder: &mut Open<B, K, S>,
     call: Call<K>,
 ) -> Answer<K>
-    ensures { IsStep K.cmp B.meaning B.beside recorder.old call (answer_numbers result) recorder.new }
+    ensures { IsCalled K.cmp B.meaning B.beside recorder.old call (answer_numbers result) recorder.new }
 {
     match call {
         Call::Note { sample } => Answer::Event(recorder.note(sample)),
@@ -48,7 +49,8 @@ fn apply_all<B: ClockBank, K: KeyKind, S: Listable<K>>(
     answers: &mut Vec<Answer<K>>,
 )
     requires { vec_len answers.old + length calls.items ≤ vec_capacity answers.old }
-    ensures run { GainsRun K.cmp B.meaning B.beside recorder.old recorder.new calls.items answers.old.items answers.new.items }
+    ensures run { GainsRun K.cmp B.meaning B.beside recorder.old recorder.new calls.items
+        answers.old.items answers.new.items }
     ensures len { vec_len answers.new ≡ vec_len answers.old + length calls.items }
     ensures capacity { vec_capacity answers.new ≡ vec_capacity answers.old }
 {
@@ -79,7 +81,8 @@ fn give<B: ClockBank + Drop, K: KeyKind, S: Listable<K> + Drop>(
     run: Run<K>,
     answers: &mut Vec<Answer<K>>,
 )
-    requires { vec_len answers.old + (length run.calls.items + length run.questions.items) ≤ vec_capacity answers.old }
+    requires { vec_len answers.old + (length run.calls.items + length run.questions.items)
+        ≤ vec_capacity answers.old }
     ensures capacity { vec_capacity answers.new ≡ vec_capacity answers.old }
     ensures given { WasGiven K.cmp B.meaning B.beside recorder run answers.old.items answers.new.items }
 {

@@ -1,7 +1,7 @@
 // Puts.
 ghost use Rattle.std.specs.Prelude.{◌≡◌, ◌<◌, length, IsOk, Ok};
 ghost use Rattle.recorder.specs.Answers.{clock_answer, put_answer};
-ghost use Rattle.recorder.specs.Changes.{TookBeside, TookReading, after_put};
+ghost use Rattle.recorder.specs.Changes.{TookReading, after_put};
 ghost use Rattle.refusals.specs.Refusals.{result_map, shown};
 ghost use Rattle.stamps.specs.Rules.{stamped_numbers};
 ghost use Rattle.recorder.specs.Stamps.{stamp_at};
@@ -22,9 +22,7 @@ impl<B: ClockBank, K: KeyKind, S: VersionStore<K>> Open<B, K, S> {
         ensures answer { shown (result_map stamped_numbers result) ≡ put_answer B.meaning self.old sample }
         ensures change { self.new ≡ after_put self.old K.cmp sample key value
             (shown (result_map stamped_numbers result)) self.new.bank }
-        ensures reading { TookReading B.meaning sample (shown (result_map stamped_numbers result))
-            self.old.bank self.new.bank }
-        ensures beside { TookBeside B.meaning B.beside sample (shown (result_map stamped_numbers result))
+        ensures reading { TookReading B.meaning B.beside sample (shown (result_map stamped_numbers result))
             self.old.bank self.new.bank }
     {
         self.check_node(sample.node)?;
@@ -51,9 +49,7 @@ impl<B: ClockBank, K: KeyKind, S: VersionStore<K>> Open<B, K, S> {
         ensures answer { IsOk result }
         ensures change { self.new ≡ after_put self.old K.cmp sample key value
             (Ok (stamped_numbers stamped)) self.new.bank }
-        ensures reading { TookReading B.meaning sample
-            (Ok (stamped_numbers stamped)) self.old.bank self.new.bank }
-        ensures beside { TookBeside B.meaning B.beside sample
+        ensures reading { TookReading B.meaning B.beside sample
             (Ok (stamped_numbers stamped)) self.old.bank self.new.bank }
     {
         self.store.add(&Version {

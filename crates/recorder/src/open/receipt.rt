@@ -1,7 +1,7 @@
 // Receipts.
 ghost use Rattle.std.specs.Prelude.{◌≡◌};
 ghost use Rattle.recorder.specs.Answers.{receipt_answer};
-ghost use Rattle.recorder.specs.Changes.{TookBeside, TookReading, after_receipt};
+ghost use Rattle.recorder.specs.Changes.{TookReading, after_receipt};
 ghost use Rattle.refusals.specs.Refusals.{result_map, shown};
 ghost use Rattle.stamps.specs.Rules.{stamped_numbers};
 
@@ -20,9 +20,7 @@ impl<B: ClockBank, K: KeyKind, S: VersionStore<K>> Open<B, K, S> {
             ≡ receipt_answer B.meaning self.old sample number }
         ensures change { self.new ≡ after_receipt self.old sample number
             (shown (result_map stamped_numbers result)) self.new.bank }
-        ensures reading { TookReading B.meaning sample (shown (result_map stamped_numbers result))
-            self.old.bank self.new.bank }
-        ensures beside { TookBeside B.meaning B.beside sample (shown (result_map stamped_numbers result))
+        ensures reading { TookReading B.meaning B.beside sample (shown (result_map stamped_numbers result))
             self.old.bank self.new.bank }
     {
         self.check_node(sample.node)?;

@@ -1,7 +1,7 @@
 // Sends.
 ghost use Rattle.std.specs.Prelude.{◌≡◌};
 ghost use Rattle.recorder.specs.Answers.{send_answer};
-ghost use Rattle.recorder.specs.Changes.{TookBeside, TookReading, after_send};
+ghost use Rattle.recorder.specs.Changes.{TookReading, after_send};
 ghost use Rattle.refusals.specs.Refusals.{result_map, shown};
 ghost use Rattle.stamps.specs.Rules.{stamped_numbers};
 
@@ -21,9 +21,7 @@ impl<B: ClockBank, K: KeyKind, S: VersionStore<K>> Open<B, K, S> {
             ≡ send_answer B.meaning self.old sample to number }
         ensures change { self.new ≡ after_send self.old sample to number
             (shown (result_map stamped_numbers result)) self.new.bank }
-        ensures reading { TookReading B.meaning sample (shown (result_map stamped_numbers result))
-            self.old.bank self.new.bank }
-        ensures beside { TookBeside B.meaning B.beside sample (shown (result_map stamped_numbers result))
+        ensures reading { TookReading B.meaning B.beside sample (shown (result_map stamped_numbers result))
             self.old.bank self.new.bank }
     {
         self.check_node(sample.node)?;

@@ -1,5 +1,5 @@
 use Rattle.std.proofs.Common.{◌≡◌, ◌+◌, ◌++◌, length, vec_len, vec_capacity}
-use Rattle.replay.specs.Runs.{GainsRun}
+use Rattle.replay.specs.Within.{GainsRun}
 use Rattle.replay.proofs.replay.apply_all.Given as goal
 
 abbrev pub invariant-loop-call : goal.invariant-loop-call

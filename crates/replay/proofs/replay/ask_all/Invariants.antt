@@ -1,5 +1,5 @@
 use Rattle.std.proofs.Common.{◌≡◌, ◌+◌, ◌≤◌, ◌++◌, length, vec_len, vec_capacity}
-use Rattle.replay.specs.Replay.{GainsEach}
+use Rattle.replay.specs.Within.{GainsEach}
 use Rattle.replay.proofs.replay.ask_all.Given as goal
 
 abbrev pub invariant-loop-question : goal.invariant-loop-question

@@ -6,6 +6,7 @@ use Rattle.std.specs.declared.cmp.Ordering.{Ordering}
 use Rattle.clocks.specs.Bank.{Meaning}
 use Rattle.clocks.specs.Highs.{fresh_highs}
 use Rattle.clocks.specs.TraceClocks.{fresh_trace, trace_meaning}
+use Rattle.clocks.specs.declared.sample.Sample.{Sample}
 use Rattle.recorder.specs.Settings.{SettingNumbers}
 use Rattle.recorder.specs.State.{State, fresh_state}
 use Rattle.replay.specs.Calls.{AnswerNumbers, answer_numbers}
@@ -43,11 +44,11 @@ module _ {K : Type 0} (form : KeyForm K) (order : K → K → Ordering) (backste
   as_many s (c ∷ calls) = ap suc (as_many (state_behind form order backstep s (Ok c)) calls)
 
 -- what `replay` adds to a list of answers that has none
-pub answers_traced : {B K : Type 0} (order : K → K → Ordering) (meaning : B → Meaning)
+pub answers_traced : {B K : Type 0} {beside : Sample → Result ℕ ℕ → B → B → Type 0} (order : K → K → Ordering) (meaning : B → Meaning)
     → ((bank : B) → meaning bank ≡ trace_meaning (λ node. (meaning bank node).high) (meaning bank 0).backstep)
     → (settings : SettingNumbers) (bank : B) (contents : Contents K) (backstep : ℕ) → meaning bank ≡ fresh_trace backstep
     → (run : Run K) (before after : List (Answer K)) → run.questions.items ≡ [] → before ≡ []
-    → GainsAnswers order meaning (fresh_state settings bank contents) run before after
+    → GainsAnswers order meaning beside (fresh_state settings bank contents) run before after
     → map answer_numbers after ≡ trace_answers order backstep (fresh_state settings fresh_highs contents) run.calls.items
 answers_traced order meaning shaped settings bank contents backstep fresh run before after q b g =
     let r = g.replayed in

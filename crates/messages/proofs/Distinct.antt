@@ -4,7 +4,7 @@ use Rattle.std.proofs.lemmas.Bool.Decides.{nat_tests}
 use Rattle.std.proofs.lemmas.List.{map-append}
 use Rattle.std.proofs.lemmas.List.Folds.{list_any-append}
 use Rattle.std.proofs.lemmas.Map.Views.{any-filter_same}
-use Rattle.messages.specs.Messages.{AreDistinct, MessageNumbers, has_number, is_under_way, message_numbers, sending_answer, without}
+use Rattle.messages.specs.Messages.{AreDistinct, MessageNumbers, has_number, is_under_way, message_numbers, may_send_answer, without}
 use Rattle.messages.specs.declared.message.Message.{Message}
 
 distinct_push : (messages : List MessageNumbers) (m : MessageNumbers)
@@ -31,7 +31,7 @@ distinct_without number (first ∷ messages) distinct =
 
 -- a message that may be sent has a number of its own
 pub distinct_after_sending : (items : List Message) (message : Message) (messages : List MessageNumbers)
-    → is_ok (sending_answer message.number messages) ≡ true → AreDistinct messages → map message_numbers items ≡ messages
+    → is_ok (may_send_answer message.number messages) ≡ true → AreDistinct messages → map message_numbers items ≡ messages
     → AreDistinct (map message_numbers (items ++ message ∷ []))
 distinct_after_sending items message messages may distinct seen =
     let new : is_under_way message.number messages ≡ false = grind (arith, may) in

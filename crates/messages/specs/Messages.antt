@@ -45,11 +45,11 @@ abbrev pub most_under_way : ℕ
 most_under_way = 64
 
 -- whether a message of this number may be sent: 11 if one is under way, then 12 if there is no place for it
-abbrev pub sending_answer : ℕ → List MessageNumbers → Result (Unit {0}) ℕ
-sending_answer number messages =
+abbrev pub may_send_answer : ℕ → List MessageNumbers → Result (Unit {0}) ℕ
+may_send_answer number messages =
     (if is_under_way number messages then Err 11
     else (if nat_le most_under_way (length messages) then Err 12 else Ok tt))
 
 -- the messages after it, in the order in which they were sent; a refused one changes nothing
 abbrev pub after_sending : MessageNumbers → List MessageNumbers → List MessageNumbers
-after_sending m messages = (if is_ok (sending_answer m.number messages) then messages ++ m ∷ [] else messages)
+after_sending m messages = (if is_ok (may_send_answer m.number messages) then messages ++ m ∷ [] else messages)

@@ -1,7 +1,7 @@
 // The messages under way.
 ghost use Rattle.std.specs.Prelude.{◌≡◌, ◌≤◌, [], is_some, length, map};
 ghost use Rattle.std.specs.Option.{option_copied, option_map};
-ghost use Rattle.messages.specs.Messages.{AreDistinct, after_sending, is_under_way, message_numbers, message_of, most_under_way, sending_answer, without};
+ghost use Rattle.messages.specs.Messages.{AreDistinct, after_sending, is_under_way, message_numbers, message_of, most_under_way, may_send_answer, without};
 ghost use Rattle.refusals.specs.Refusals.{shown};
 ghost use Rattle.store.specs.Page.{after_cut, cut_answer};
 
@@ -11,12 +11,12 @@ use refusals::refusal::Refusal;
 use std::marker::Model;
 
 // So many messages are under way at most.
-pub const MOST_UNDER_WAY: usize = 64;
+pub const MAX_UNDER_WAY: usize = 64;
 
 // In the order in which they were sent, and no number twice; the place of one that is used up is free again.
 #[derive(Drop)]
 pub struct Messages {
-    under_way: ArrayVec<Message, MOST_UNDER_WAY>,
+    under_way: ArrayVec<Message, MAX_UNDER_WAY>,
 }
 
 impl Model for Messages {
@@ -51,7 +51,7 @@ impl Messages {
     // Whether a message of this number may be sent: refused with 11 where one is under way, then with 12 where 64 are.
     #[tactic(auto, using(crate::proofs::Sending::found_if_under_way, crate::proofs::Sending::full_if_most))]
     pub fn check_send(&self, number: u32) -> Result<(), Refusal>
-        ensures { shown result ≡ sending_answer number self.now }
+        ensures { shown result ≡ may_send_answer number self.now }
     {
         if self.find(number).is_some() {
             return Err(Refusal::NumberUnderWay);
@@ -65,7 +65,7 @@ impl Messages {
     // The message is under way, behind all others; refused as `check_send` does.
     #[tactic(auto, using(crate::proofs::Distinct::distinct_after_sending))]
     pub fn send(&mut self, message: Message) -> Result<(), Refusal>
-        ensures answer { shown result ≡ sending_answer message.number self.old }
+        ensures answer { shown result ≡ may_send_answer message.number self.old }
         ensures change { self.new ≡ after_sending (message_numbers message) self.old }
     {
         self.check_send(message.number)?;
@@ -108,7 +108,7 @@ fn first_of(messages: &[Message], number: u32) -> Option<&Message>
 }
 
 // Keeps those of all other numbers, in their order.
-fn keep_others(messages: &mut ArrayVec<Message, MOST_UNDER_WAY>, number: u32)
+fn keep_others(messages: &mut ArrayVec<Message, MAX_UNDER_WAY>, number: u32)
     ensures { map message_numbers messages.new.items
         ≡ without number (map message_numbers messages.old.items) }
 {

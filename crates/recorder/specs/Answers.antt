@@ -1,15 +1,16 @@
 -- What each call of an open recorder answers: its checks in their order, and then the answer.
-use Rattle.std.specs.Prelude.{ℕ, ◌&&◌, if◌then◌else◌, ◌==◌, length, nat_le, Some, None, Ok, Err, Option, Result}
+use Rattle.std.specs.Prelude.{ℕ, Bool, ◌&&◌, List, if◌then◌else◌, ◌==◌, length, nat_le, Some, None, Ok, Err, Option, Result}
 use Rattle.std.specs.declared.cmp.Ordering.{Ordering}
 use Rattle.clocks.specs.Bank.{Meaning, look_answer}
 use Rattle.clocks.specs.declared.sample.Sample.{Sample}
-use Rattle.messages.specs.Messages.{MessageNumbers, is_under_way, message_of, sending_answer}
+use Rattle.messages.specs.Messages.{MessageNumbers, is_under_way, message_of, may_send_answer}
 use Rattle.stamps.specs.Rules.{StampedNumbers, lead_receipt_answer, own_answer}
+use Rattle.store.specs.Contents.{Contents}
 use Rattle.store.specs.Newest.{newest}
-use Rattle.store.specs.Page.{cut_answer, page}
+use Rattle.store.specs.Page.{after_cut, cut_answer, page}
 use Rattle.store.specs.declared.version.Version.{Version}
 use Rattle.recorder.specs.Stamps.{stamp_at}
-use Rattle.recorder.specs.State.{State, is_node, is_settled}
+use Rattle.recorder.specs.State.{State, is_node}
 
 -- the rule's answer at the clock's reading; the clock's refusal comes first
 abbrev pub at_reading : (ℕ → Result StampedNumbers ℕ) → Result ℕ ℕ → Result StampedNumbers ℕ
@@ -42,7 +43,7 @@ module _ {B K : Type 0} (meaning : B → Meaning) (s : State B K) where
   -- 7 for either node, 11, 12, 8 or 9, 10
   abbrev pub send_answer : Sample → ℕ → ℕ → Result StampedNumbers ℕ
   send_answer sample to number =
-      (if is_node s sample.node && is_node s to then if_sent sample (sending_answer number s.messages) else Err 7)
+      (if is_node s sample.node && is_node s to then if_sent sample (may_send_answer number s.messages) else Err 7)
 
   -- the event, where a message was found
   abbrev pub if_found : Sample → Option MessageNumbers → Result StampedNumbers ℕ
@@ -64,17 +65,20 @@ module _ {B K : Type 0} (meaning : B → Meaning) (s : State B K) where
       then (if nat_le s.contents.capacity (length s.contents.versions) then Err 16 else own_event sample)
       else Err 7)
 
-module _ {B K : Type 0} (s : State B K) where
-  -- 13
-  abbrev pub loss_answer : ℕ → Result (Unit {0}) ℕ
-  loss_answer number = (if is_under_way number s.messages then Ok tt else Err 13)
+-- 13
+abbrev pub loss_answer : {B K : Type 0} → State B K → ℕ → Result (Unit {0}) ℕ
+loss_answer s number = (if is_under_way number s.messages then Ok tt else Err 13)
 
+-- Questions, where these stamp codes are settled, of these contents: of an open recorder, or of a closed one, where all are.
+module _ {K : Type 0} (order : K → K → Ordering) (settled : ℕ → Bool) (contents : Contents K) where
   -- 18, and then the store's answer
-  abbrev pub read_answer : (K → K → Ordering) → K → ℕ → Result (Option (Version K)) ℕ
-  read_answer order key code =
-      (if is_settled s code then Ok (newest order s.contents.versions key code) else Err 18)
+  abbrev pub read_answer : K → ℕ → Result (Option (Version K)) ℕ
+  read_answer key code = (if settled code then Ok (newest order contents.versions key code) else Err 18)
 
   -- 18, 19
-  abbrev pub page_answer : (K → K → Ordering) → ℕ → ℕ → Result ℕ ℕ
-  page_answer order code places =
-      (if is_settled s code then cut_answer (page order s.contents.versions code) places else Err 18)
+  abbrev pub page_answer : ℕ → ℕ → Result ℕ ℕ
+  page_answer code places = (if settled code then cut_answer (page order contents.versions code) places else Err 18)
+
+  -- the caller's rows after a cut: a refused one leaves them
+  abbrev pub after_page : ℕ → List (Version K) → List (Version K)
+  after_page code rows = (if settled code then after_cut (page order contents.versions code) rows else rows)

@@ -1,5 +1,5 @@
 -- What each call of an open recorder changes, by its answer: a refused one nothing at all.
-use Rattle.std.specs.Prelude.{◌≡◌, ℕ, ℤ, if◌then◌else◌, List, [], ◌∷◌, ◌++◌, Ok, Err, Result}
+use Rattle.std.specs.Prelude.{◌≡◌, ℕ, ℤ, List, [], ◌∷◌, ◌++◌, Ok, Err, Result}
 use Rattle.std.specs.declared.cmp.Ordering.{Ordering}
 use Rattle.clocks.specs.Bank.{Meaning, Taken, look_answer}
 use Rattle.clocks.specs.declared.sample.Sample.{Sample}
@@ -7,11 +7,10 @@ use Rattle.messages.specs.Messages.{MessageNumbers, without}
 use Rattle.stamps.specs.Rules.{StampedNumbers}
 use Rattle.stamps.specs.Stamp.{Timestamp, code_of}
 use Rattle.store.specs.Contents.{Contents}
-use Rattle.store.specs.Page.{after_cut, page}
 use Rattle.store.specs.Versions.{with_version}
 use Rattle.store.specs.declared.version.Version.{Version}
 use Rattle.recorder.specs.Stamps.{with_last}
-use Rattle.recorder.specs.State.{State, is_settled}
+use Rattle.recorder.specs.State.{State}
 
 -- An event that answered so took its reading from the bank, which did what else a take of its kind does; a refused one left the
 -- bank alone.
@@ -73,7 +72,3 @@ module _ {B K : Type 0} (s : State B K) where
         let v : Version K = record { key = key; stamp = code_of event.stamp; node = sample.node; value = value } in
         with_event sample.node event.stamp bank s.messages (with_put v)
     after_put sample key value (Err refusal) bank = s
-
-    -- the caller's rows after a cut: a refused one leaves them
-    abbrev pub after_page : ℕ → List (Version K) → List (Version K)
-    after_page code rows = (if is_settled s code then after_cut (page order s.contents.versions code) rows else rows)

@@ -1,5 +1,5 @@
 -- Worked examples: what the definitions of the stamp rules, the clocks and the recorder come to.
-use Rattle.std.specs.Prelude.{◌≡◌, ℕ, ℤ, negsuc, List, [], Some, None, Ok, Err, Option, Result}
+use Rattle.std.specs.Prelude.{◌≡◌, ℕ, ℤ, negsuc, [], Some, None, Ok, Err, Option, Result}
 use Rattle.std.specs.Ordering.{nat_cmp}
 use Rattle.clocks.specs.Bank.{Meaning}
 use Rattle.clocks.specs.Highs.{fresh_highs, raised_high}
@@ -11,7 +11,7 @@ use Rattle.stamps.specs.Stamp.{Timestamp, code_of, zero_stamp}
 use Rattle.store.specs.declared.version.Version.{Version}
 use Rattle.recorder.specs.Answers.{at_reading, put_answer, read_answer}
 use Rattle.recorder.specs.Changes.{after_put}
-use Rattle.recorder.specs.State.{State, fresh_state}
+use Rattle.recorder.specs.State.{State, fresh_state, is_settled}
 
 -- the stamp l.c
 abbrev at : ℕ → ℕ → Timestamp
@@ -42,6 +42,10 @@ put_at_1000 s node value =
 abbrev version : ℕ → ℤ → Version ℕ
 version node value = record { key = 7; stamp = code_of (at 1000 0); node = node; value = value }
 
+-- what a read of key 7 answers at this stamp code
+abbrev read_by : State (ℕ → ℕ) ℕ → ℕ → Result (Option (Version ℕ)) ℕ
+read_by s code = read_answer nat_cmp (is_settled s) s.contents 7 code
+
 abbrev pub Examples : Type 0
 Examples =
     -- the last stamp is 1000.65535: a note at 1000 is refused with 10, at 1001 it gets 1001.0
@@ -62,7 +66,8 @@ Examples =
     × (offset_answer (negsuc 999) (Ok 1000) ≡ Err 8)
     × (offset_answer (negsuc 999) (Ok 1001) ≡ Ok 1)
     -- one key is put at 1000.0 by nodes 0 and 1: a read at 1000.0 gives node 1's
-    × (read_answer (put_at_1000 (put_at_1000 fresh 0 (negsuc 8999)) 1 (negsuc 8499)) nat_cmp 7 (code_of (at 1000 0)) ≡ Ok (Some (version 1 (negsuc 8499))))
+    × (read_by (put_at_1000 (put_at_1000 fresh 0 (negsuc 8999)) 1 (negsuc 8499)) (code_of (at 1000 0))
+    ≡ Ok (Some (version 1 (negsuc 8499))))
     -- a fresh recorder answers none at the stamp code 0, and is refused with 18 at the code 1
-    × (read_answer fresh nat_cmp 7 0 ≡ Ok None)
-    × (read_answer fresh nat_cmp 7 1 ≡ Err 18)
+    × (read_by fresh 0 ≡ Ok None)
+    × (read_by fresh 1 ≡ Err 18)

@@ -84,9 +84,8 @@ module _ {B K : Type 0} (order : K → K → Ordering) (total : IsTotalOrder ord
         → (if closed then true else is_settled s stamp) ≡ settled
         → let all = page order s.contents.versions stamp in
         let rows_then = (if fits then all ++ drop (length all) rows.items else rows.items) in
-        BehindAnswer (question_entry (question.Cut stamp rows) (if settled
-        then CutAnswer (if fits then Ok (length all) else Err 19) rows_then
-        else CutAnswer (Err 18) rows.items))
+        BehindAnswer (question_entry (question.Cut stamp rows)
+        (CutAnswer (if settled then (if fits then Ok (length all) else Err 19) else Err 18) (if settled then rows_then else rows.items)))
     cut_told stamp rows false fits is = nothing
     cut_told stamp rows true false is = nothing
     cut_told stamp rows true true is =

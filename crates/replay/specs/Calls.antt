@@ -1,16 +1,15 @@
 -- The calls of a run, and what each answers and changes.
-use Rattle.std.specs.Prelude.{ℕ, Bool, if◌then◌else◌, List, length, map, Ok, Err, Option, Result}
+use Rattle.std.specs.Prelude.{ℕ, Bool, List, length, map, Option, Result}
 use Rattle.std.specs.declared.cmp.Ordering.{Ordering}
 use Rattle.clocks.specs.Bank.{Meaning}
 use Rattle.messages.specs.Messages.{MessageNumbers, message_numbers}
-use Rattle.recorder.specs.Answers.{loss_answer, note_answer, put_answer, receipt_answer, send_answer}
+use Rattle.recorder.specs.Answers.{after_page, loss_answer, note_answer, page_answer, put_answer, read_answer, receipt_answer, send_answer}
 use Rattle.recorder.specs.Changes.{after_loss, after_note, after_put, after_receipt, after_send}
 use Rattle.recorder.specs.State.{State, is_settled}
 use Rattle.refusals.specs.Refusals.{result_map, shown}
 use Rattle.stamps.specs.Rules.{StampedNumbers, stamped_numbers}
 use Rattle.store.specs.Contents.{Contents}
-use Rattle.store.specs.Newest.{newest}
-use Rattle.store.specs.Page.{after_cut, cut_answer, page}
+use Rattle.store.specs.Page.{after_cut, cut_answer}
 use Rattle.store.specs.declared.version.Version.{Version}
 use Rattle.replay.specs.declared.call.Answer.{Answer}
 use Rattle.replay.specs.declared.call.Answer.TheVariants as answer
@@ -35,15 +34,11 @@ answer_numbers (answer.Cut count rows) = CutAnswer (shown count) rows.items
 answer_numbers (answer.UnderWay count rows) = UnderWayAnswer (shown count) (map message_numbers rows.items)
 
 module _ {K : Type 0} (order : K → K → Ordering) where
-  -- the answer to a question, where these stamps are settled, of these contents and messages
+  -- the answer to a question, where these stamp codes are settled, of these contents and messages
   abbrev pub question_answer : (ℕ → Bool) → Contents K → List MessageNumbers → Question K → AnswerNumbers K
-  question_answer settled contents messages (question.Read key stamp) =
-      ReadAnswer (if settled stamp then Ok (newest order contents.versions key stamp) else Err 18)
+  question_answer settled contents messages (question.Read key stamp) = ReadAnswer (read_answer order settled contents key stamp)
   question_answer settled contents messages (question.Cut stamp rows) =
-      let rows_then : List (Version K) = page order contents.versions stamp in
-      (if settled stamp
-      then CutAnswer (cut_answer rows_then (length rows.items)) (after_cut rows_then rows.items)
-      else CutAnswer (Err 18) rows.items)
+      CutAnswer (page_answer order settled contents stamp (length rows.items)) (after_page order settled contents stamp rows.items)
   question_answer settled contents messages (question.UnderWay rows) =
       UnderWayAnswer (cut_answer messages (length rows.items)) (after_cut messages (map message_numbers rows.items))
 

@@ -21,8 +21,6 @@ use Rattle.replay.specs.declared.call.Question.TheVariants as question
 abbrev pub question_entry : {K : Type 0} → Question K → AnswerNumbers K → Option (Entry K)
 question_entry (question.Read key stamp) (ReadAnswer (Ok answer)) = Some (Read key stamp answer)
 question_entry (question.Cut stamp given) (CutAnswer (Ok count) rows) = Some (Cut stamp count (take count rows))
-question_entry (question.Read key stamp) (ReadAnswer (Err refusal)) = None
-question_entry (question.Cut stamp given) (CutAnswer (Err refusal) rows) = None
 question_entry q a = None
 
 module _ {B K : Type 0} (order : K → K → Ordering) (meaning : B → Meaning) where

@@ -1,7 +1,7 @@
 // Cuts.
 ghost use Rattle.std.specs.Prelude.{◌≡◌, length};
-ghost use Rattle.recorder.specs.Answers.{page_answer};
-ghost use Rattle.recorder.specs.Changes.{after_page};
+ghost use Rattle.recorder.specs.Answers.{after_page, page_answer};
+ghost use Rattle.recorder.specs.State.{is_settled};
 ghost use Rattle.refusals.specs.Refusals.{shown};
 
 use crate::open::Open;
@@ -17,8 +17,10 @@ impl<B: ClockBank, K: KeyKind, S: Listable<K>> Open<B, K, S> {
     // the keys. Answers how many. Refused with 18 as a read is, then with 19 where there are fewer places, and then none changes;
     // the places behind the last row stay.
     pub fn cut(&self, stamp: u64, rows: &mut [Version<K>]) -> Result<usize, Refusal>
-        ensures answer { shown result ≡ page_answer self.now K.cmp stamp (length rows.old) }
-        ensures rows { rows.new ≡ after_page self.now K.cmp stamp rows.old }
+        ensures answer { shown result
+            ≡ page_answer K.cmp (is_settled self.now) self.now.contents stamp (length rows.old) }
+        ensures rows { rows.new
+            ≡ after_page K.cmp (is_settled self.now) self.now.contents stamp rows.old }
     {
         self.check_settled(stamp)?;
         cut(&self.store, stamp, rows)

@@ -24,6 +24,7 @@ impl<B: ClockBank, K: KeyKind, S: VersionStore<K>> Open<B, K, S> {
     {
         self.check_node(sample.node)?;
         let noted = self.stamper.own(sample)?;
+        // The clock has answered, so this does not refuse.
         self.stamper.enter(sample, noted)?;
         Ok(noted)
     }

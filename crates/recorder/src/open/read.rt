@@ -16,7 +16,7 @@ impl<B: ClockBank, K: KeyKind, S: VersionStore<K>> Open<B, K, S> {
     // The version of the key with the largest stamp not above this one, the higher node among equal stamps. Refused with 18 where
     // some node's last stamp is below it, since the answer could still change.
     pub fn read(&self, key: K, stamp: u64) -> Result<Option<Version<K>>, Refusal>
-        ensures answer { shown result ≡ read_answer self.now K.cmp key stamp }
+        ensures answer { shown result ≡ read_answer K.cmp (is_settled self.now) self.now.contents key stamp }
         ensures in_words { OnOk result (IsOnlyAnswer self.now.contents.versions key stamp (newest K.cmp self.now.contents.versions key stamp)) }
     {
         self.check_settled(stamp)?;

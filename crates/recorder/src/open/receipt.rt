@@ -31,6 +31,7 @@ impl<B: ClockBank, K: KeyKind, S: VersionStore<K>> Open<B, K, S> {
             return Err(Refusal::OtherAddressee);
         }
         let stamped = self.stamper.receipt(sample, self.lead, message.stamp)?;
+        // The clock has answered, so this does not refuse.
         self.stamper.enter(sample, stamped)?;
         self.messages.remove(number);
         Ok(stamped)

@@ -29,6 +29,7 @@ impl<B: ClockBank, K: KeyKind, S: VersionStore<K>> Open<B, K, S> {
         self.messages.check_send(number)?;
         let stamped = self.stamper.own(sample)?;
         let stamp = stamped.stamp;
+        // All checks are made, and the clock has answered: neither of these refuses.
         self.messages.send(Message { number, to, stamp })?;
         self.stamper.enter(sample, stamped)?;
         Ok(stamped)

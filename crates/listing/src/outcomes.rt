@@ -57,9 +57,14 @@ fn answer_pieces<K: TraceKey>(answer: &Answer<K>) -> Result<ArrayVec<Piece, 3>, 
         }
         Answer::Loss(loss) => loss?,
         Answer::Read(found) => match found? {
-            Some(Version {
-                value, stamp, node, ..
-            }) => {
+            Some(
+                Version {
+                    value,
+                    stamp,
+                    node,
+                    ..
+                },
+            ) => {
                 pieces.push(Piece::Signed(value));
                 pieces.push(Piece::Stamp(stamp));
                 pieces.push(Piece::Number(u64::from(node)));
@@ -82,7 +87,7 @@ pub(crate) fn add_outcome(
     more: Result<ArrayVec<Piece, 3>, Refusal>,
 ) -> Result<(), AllocError>
     ensures { let outcome = outcome_for (content_of «record».now)
-            (shown (result_map (λ pieces. pieces.items) more)) in
+        (shown (result_map (λ pieces. pieces.items) more)) in
         AddsInRoom text.old text.new (outcome_line number outcome) result }
 {
     let number = Piece::Number(number);
@@ -113,7 +118,7 @@ fn next_of<'a, K: TraceKey>(record: &Record, answers: &'a [Answer<K>]) -> Next<'
     requires { IsOk (call_of K.form (content_of «record».now)) → 0 < length answers.now }
     ensures more { let m = content_of «record».now in
         outcome_for m (shown (result_map (λ pieces. pieces.items) result.more))
-            ≡ next_outcome m (call_of K.form m) (map answer_numbers answers.now) }
+        ≡ next_outcome m (call_of K.form m) (map answer_numbers answers.now) }
     ensures left { map answer_numbers result.left.now
         ≡ answers_left (call_of K.form (content_of «record».now)) (map answer_numbers answers.now) }
 {
@@ -147,10 +152,10 @@ pub(crate) fn add_outcomes<K: TraceKey>(
 ) -> Result<Counts, AllocError>
     requires { length answers.now ≡ length (calls_of K.form (map content_of records.now)) }
     ensures text { let outcomes = recorded K.form (map content_of records.now)
-            (map answer_numbers answers.now) in
+        (map answer_numbers answers.now) in
         Adds text.old text.new (outcome_lines 2 outcomes) result }
     ensures counts { let outcomes = recorded K.form (map content_of records.now)
-            (map answer_numbers answers.now) in
+        (map answer_numbers answers.now) in
         IfOk result (AreCounts outcomes) }
 {
     let mut counts = Counts {
@@ -187,11 +192,7 @@ fn add_bad(text: &mut String, bad: Bad) -> Result<(), AllocError>
 }
 
 // The last lines: where no more was read, if so, and the counts.
-pub(crate) fn add_end(
-    text: &mut String,
-    bad: Option<Bad>,
-    counts: Counts,
-) -> Result<(), AllocError>
+pub(crate) fn add_end(text: &mut String, bad: Option<Bad>, counts: Counts) -> Result<(), AllocError>
     ensures { let last = ending_lines (ending_of bad) ++ end_line counts.accepted counts.refused in
         AddsInRoom text.old text.new last result }
 {

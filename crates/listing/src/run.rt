@@ -53,7 +53,7 @@ fn answers_for<K: TraceKey, S: Listable<K> + Drop>(
     ensures { let start = fresh_state (setting_numbers setup.settings) fresh_highs store in
         let calls = calls_of K.form (map content_of records.now) in
         IfOk result (λ answers. map answer_numbers answers.items
-            ≡ trace_answers K.cmp (backstep_of setup.backstep) start calls) }
+        ≡ trace_answers K.cmp (backstep_of setup.backstep) start calls) }
 {
     let run = Run {
         calls: calls_for(heap, records)?,

@@ -10,10 +10,11 @@ use Rattle.clocks.specs.TraceClocks.{fresh_trace, trace_meaning}
 use Rattle.clocks.specs.declared.sample.Sample.{Sample}
 use Rattle.history.specs.History.{Entry}
 use Rattle.recorder.specs.Answers.{clock_answer}
+use Rattle.recorder.specs.Changes.{TookReading}
 use Rattle.recorder.specs.Settings.{SettingNumbers}
 use Rattle.recorder.specs.State.{State, fresh_state}
 use Rattle.replay.specs.Calls.{AnswerNumbers, after_call, call_answer}
-use Rattle.replay.specs.Runs.{IsRun, IsStep, NoCall, OneMore, TakesFor, TakesReading}
+use Rattle.replay.specs.Runs.{IsRun, IsStep, NoCall, OneMore, TookFor}
 use Rattle.replay.specs.declared.call.Call.{Call}
 use Rattle.replay.specs.declared.call.Call.TheVariants as call
 use Rattle.stamps.specs.Rules.{StampedNumbers}
@@ -71,7 +72,7 @@ module _ {B K : Type 0} (order : K → K → Ordering) (highs : B → ℕ → �
 
         takes : (answer : Result StampedNumbers ℕ)
             → ((event : StampedNumbers) → answer ≡ Ok event → clock_answer meaning s sample ≡ Ok sample.raw.0)
-            → TakesFor order meaning s sample answer bank → HasThen (raised_for answer)
+            → TookReading meaning sample answer s.bank bank → HasThen (raised_for answer)
         takes (Err refusal) reads same = stays same
         takes (Ok event) reads taken =
             let took = subst (λ a. Taken a sample.node (meaning s.bank) (meaning bank)) (reads event refl) taken in
@@ -81,7 +82,7 @@ module _ {B K : Type 0} (order : K → K → Ordering) (highs : B → ℕ → �
             ] in
             (λ i node. high node i, took.0.backstep)
 
-      taken_bank : (c : Call K) → TakesReading order meaning s c bank
+      taken_bank : (c : Call K) → TookFor order meaning s c bank
           → HasThen (highs_after order (backstep s.bank) with_highs c)
       taken_bank (call.Note sample) = takes sample _ (λ event is. grind (arith, nat_tests, is))
       taken_bank (call.Send sample to number) = takes sample _ (λ event is. grind (arith, nat_tests, is))

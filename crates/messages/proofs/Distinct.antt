@@ -7,22 +7,24 @@ use Rattle.std.proofs.lemmas.Map.Views.{any-filter_same}
 use Rattle.messages.specs.Messages.{AreDistinct, MessageNumbers, has_number, is_under_way, message_numbers, sending_answer, without}
 use Rattle.messages.specs.declared.message.Message.{Message}
 
-distinct_push : (messages : List MessageNumbers) (m : MessageNumbers) → AreDistinct messages → is_under_way m.number messages ≡ false
-    → AreDistinct (messages ++ m ∷ [])
+distinct_push : (messages : List MessageNumbers) (m : MessageNumbers)
+    → AreDistinct messages → is_under_way m.number messages ≡ false → AreDistinct (messages ++ m ∷ [])
 distinct_push [] m distinct new = (refl, tt)
 distinct_push (first ∷ messages) m distinct new = (
   list_any-append (has_number first.number) messages (m ∷ []) ∙ grind (arith, nat_tests, distinct.0, new),
   distinct_push messages m distinct.1 (grind (arith, nat_tests, new)),
 )
 
-without_first : (number : ℕ) (first : MessageNumbers) (messages : List MessageNumbers) (stays : Bool) → not (has_number number first) ≡ stays
-    → is_under_way first.number messages ≡ false → AreDistinct (without number messages)
+without_first : (number : ℕ) (first : MessageNumbers) (messages : List MessageNumbers) (stays : Bool)
+    → not (has_number number first) ≡ stays → is_under_way first.number messages ≡ false → AreDistinct (without number messages)
     → AreDistinct (cond stays (first ∷ without number messages) (without number messages))
 without_first number first messages true is new rest =
-    (any-filter_same (has_number first.number) (λ m. not (has_number number m)) true (λ m same. grind (arith, nat_tests)) messages ∙ new, rest)
+    let other = λ (m : MessageNumbers). not (has_number number m) in
+    (any-filter_same (has_number first.number) other true (λ m same. grind (arith, nat_tests)) messages ∙ new, rest)
 without_first number first messages false is new rest = rest
 
-pub distinct_without : (number : ℕ) (messages : List MessageNumbers) → AreDistinct messages → AreDistinct (without number messages)
+pub distinct_without : (number : ℕ) (messages : List MessageNumbers)
+    → AreDistinct messages → AreDistinct (without number messages)
 distinct_without number [] distinct = tt
 distinct_without number (first ∷ messages) distinct =
     without_first number first messages _ refl distinct.0 (distinct_without number messages distinct.1)

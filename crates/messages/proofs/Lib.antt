@@ -1,4 +1,4 @@
-pub mod Distinct
-pub mod Listing
+mod Distinct
+mod Listing
 mod Seen
-pub mod Sending
+mod Sending

@@ -14,4 +14,5 @@ shown_rows written items rows count messages same long fits seen =
     let places = length-map rows message_numbers in
     let length_seen : length messages ≡ count = ap length (sym seen) ∙ length-map items message_numbers ∙ sym long in
     let room : nat_le (length messages) (length (map message_numbers rows)) ≡ true = grind (arith, nat_tests) in
-    rw (room, length_seen, drop-map message_numbers count rows, ← seen, ← same) (map-append message_numbers written (drop count rows))
+    rw (room, length_seen, drop-map message_numbers count rows, ← seen, ← same)
+    (map-append message_numbers written (drop count rows))

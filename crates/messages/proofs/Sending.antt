@@ -16,7 +16,8 @@ found_if_under_way number messages found is =
 
 -- 64 are under way if all places are taken
 pub full_if_most : (messages : List MessageNumbers) (items : List Message)
-    → length items ≤ most_under_way → map message_numbers items ≡ messages → nat_le most_under_way (length messages) ≡ (length items == most_under_way)
+    → length items ≤ most_under_way → map message_numbers items ≡ messages
+    → nat_le most_under_way (length messages) ≡ (length items == most_under_way)
 full_if_most messages items fits seen =
     let same : length messages ≡ length items = ap length (sym seen) ∙ length-map items message_numbers in
     grind (arith, nat_tests)

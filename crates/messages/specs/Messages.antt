@@ -1,7 +1,7 @@
 -- Messages under way, and what the calls on them answer and change.
 use Rattle.std.specs.Prelude.{◌≡◌, ℕ, ⊤, Bool, false, not, if◌then◌else◌, ◌==◌, List, [], ◌∷◌, ◌++◌, length, nat_le, Ok, Err, Option, Result, is_ok}
 use Rattle.std.specs.List.{filter, find, list_any}
-use Rattle.stamps.specs.Stamp.{Timestamp, stamp_of}
+use Rattle.stamps.specs.Stamp.{Timestamp, stamp_of, zero_stamp}
 use Rattle.messages.specs.declared.message.Message.{Message}
 
 -- A message as numbers.
@@ -14,6 +14,10 @@ pub record MessageNumbers : Type 0 where
 
 abbrev pub message_numbers : Message → MessageNumbers
 message_numbers m = record { number = m.number; to = m.to; stamp = stamp_of m.stamp }
+
+-- what stands in a place that is free
+abbrev pub no_message : MessageNumbers
+no_message = record { number = 0; to = 0; stamp = zero_stamp }
 
 -- has it this number?
 abbrev pub has_number : ℕ → MessageNumbers → Bool

@@ -13,6 +13,10 @@ pub struct Message {
 
 // What stands in a place that is free.
 impl Default for Message {
+    ghost use Rattle.messages.specs.Messages.{message_numbers, no_message};
+
+    ghost is_default = { λ m. message_numbers m ≡ no_message };
+
     fn default() -> Message {
         Message {
             number: 0,

@@ -13,7 +13,7 @@ use std::marker::Model;
 // So many messages are under way at most.
 pub const MOST_UNDER_WAY: usize = 64;
 
-// In the order in which they were sent; the place of one that is used up is free again.
+// In the order in which they were sent, and no number twice; the place of one that is used up is free again.
 #[derive(Drop)]
 pub struct Messages {
     under_way: ArrayVec<Message, MOST_UNDER_WAY>,
@@ -100,14 +100,16 @@ impl Messages {
 
 // The first of the messages that has this number.
 fn first_of(messages: &[Message], number: u32) -> Option<&Message>
-    ensures { option_map message_numbers (option_copied result) ≡ message_of number (map message_numbers messages.now) }
+    ensures { option_map message_numbers (option_copied result)
+        ≡ message_of number (map message_numbers messages.now) }
 {
     messages.iter().find(|message| message.number == number)
 }
 
 // Keeps those of all other numbers, in their order.
 fn keep_others(messages: &mut ArrayVec<Message, MOST_UNDER_WAY>, number: u32)
-    ensures { map message_numbers messages.new.items ≡ without number (map message_numbers messages.old.items) }
+    ensures { map message_numbers messages.new.items
+        ≡ without number (map message_numbers messages.old.items) }
 {
     messages.retain(|message| message.number != number);
 }

@@ -13,14 +13,17 @@ use Rattle.store.specs.declared.version.Version.{Version}
 use Rattle.recorder.specs.Stamps.{with_last}
 use Rattle.recorder.specs.State.{State, is_settled}
 
--- An event that answered so took its reading from the bank; a refused one left the bank alone. (`beside` is what else a take of
--- this kind of bank does.)
-abbrev pub TookReading : {B : Type 0} (meaning : B → Meaning) (beside : Sample → Result ℕ ℕ → B → B → Type 0)
+-- An event that answered so took its reading from the bank; a refused one left the bank alone.
+abbrev pub TookReading : {B : Type 0} (meaning : B → Meaning) → Sample → Result StampedNumbers ℕ → B → B → Type 0
+TookReading meaning sample (Ok event) old new =
+    Taken (look_answer (meaning old) sample.node sample.raw.0) sample.node (meaning old) (meaning new)
+TookReading meaning sample (Err number) old new = new ≡ old
+
+-- And did what else a take of this kind of bank does.
+abbrev pub TookBeside : {B : Type 0} (meaning : B → Meaning) (beside : Sample → Result ℕ ℕ → B → B → Type 0)
     → Sample → Result StampedNumbers ℕ → B → B → Type 0
-TookReading meaning beside sample (Ok event) old new =
-    let reading : Result ℕ ℕ = look_answer (meaning old) sample.node sample.raw.0 in
-    Taken reading sample.node (meaning old) (meaning new) × beside sample reading old new
-TookReading meaning beside sample (Err number) old new = new ≡ old
+TookBeside meaning beside sample (Ok event) old new = beside sample (look_answer (meaning old) sample.node sample.raw.0) old new
+TookBeside meaning beside sample (Err number) old new = new ≡ old
 
 module _ {B K : Type 0} (s : State B K) where
   -- an event of this node got this stamp: then the bank is this one, and so are the messages under way and the contents

@@ -29,8 +29,8 @@ impl<K: KeyKind, S: VersionStore<K>> Model for Closed<K, S> {
     ghost Value = { ClosedState K };
 
     ghost view = { λ recorder. record {
-        messages = recorder.messages;
-        contents = S.contents recorder.store;
+      messages = recorder.messages;
+      contents = S.contents recorder.store;
     } };
 }
 

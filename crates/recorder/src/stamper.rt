@@ -2,7 +2,7 @@
 ghost use Rattle.std.specs.Prelude.{◌≡◌, ◌<◌, ◌≤◌, length, nat_lt, IfOk, Ok, OnOk};
 ghost use Rattle.clocks.specs.Bank.{look_answer};
 ghost use Rattle.recorder.specs.Answers.{at_reading, taken_answer};
-ghost use Rattle.recorder.specs.Changes.{TookReading};
+ghost use Rattle.recorder.specs.Changes.{TookBeside, TookReading};
 ghost use Rattle.recorder.specs.Stamps.{no_stamps, none_below, stamp_at, with_last};
 ghost use Rattle.refusals.specs.Refusals.{result_map, shown};
 ghost use Rattle.stamps.specs.Lead.{lead_of};
@@ -47,7 +47,7 @@ impl<B: ClockBank> Stamper<B> {
     pub(crate) fn own(&self, sample: Sample) -> Result<Stamped, Refusal>
         ensures answer { shown (result_map stamped_numbers result)
             ≡ at_reading (own_answer (stamp_at self.now.last sample.node))
-              (look_answer (B.meaning self.now.bank) sample.node sample.raw.0) }
+            (look_answer (B.meaning self.now.bank) sample.node sample.raw.0) }
         ensures later { IfOk result (λ stamped.
             code_of (stamp_at self.now.last sample.node) < stamp_code stamped.stamp) }
     {
@@ -65,7 +65,7 @@ impl<B: ClockBank> Stamper<B> {
     ) -> Result<Stamped, Refusal>
         ensures answer { shown (result_map stamped_numbers result)
             ≡ at_reading (lead_receipt_answer (lead_of lead) (stamp_at self.now.last sample.node) (stamp_of sent))
-              (look_answer (B.meaning self.now.bank) sample.node sample.raw.0) }
+            (look_answer (B.meaning self.now.bank) sample.node sample.raw.0) }
         ensures later { IfOk result (λ stamped.
             code_of (stamp_at self.now.last sample.node) < stamp_code stamped.stamp) }
     {
@@ -79,7 +79,9 @@ impl<B: ClockBank> Stamper<B> {
         requires { sample.node < length self.old.last }
         ensures answer { shown result
             ≡ taken_answer (look_answer (B.meaning self.old.bank) sample.node sample.raw.0) }
-        ensures bank { OnOk result (TookReading B.meaning B.beside sample
+        ensures reading { OnOk result (TookReading B.meaning sample
+            (Ok (stamped_numbers stamped)) self.old.bank self.new.bank) }
+        ensures beside { OnOk result (TookBeside B.meaning B.beside sample
             (Ok (stamped_numbers stamped)) self.old.bank self.new.bank) }
         ensures last { OnOk result (self.new.last
             ≡ with_last sample.node (stamp_of stamped.stamp) self.old.last) }

@@ -1,6 +1,4 @@
 mod Gaining
 mod Standing
-mod Accepted
 mod Asking
-mod Steps
 pub mod Whole

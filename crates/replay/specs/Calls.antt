@@ -1,5 +1,5 @@
 -- The calls of a run, and what each answers and changes.
-use Rattle.std.specs.Prelude.{◌≡◌, ℕ, Bool, if◌then◌else◌, List, length, map, Some, Ok, Err, Option, Result}
+use Rattle.std.specs.Prelude.{ℕ, Bool, if◌then◌else◌, List, length, map, Ok, Err, Option, Result}
 use Rattle.std.specs.declared.cmp.Ordering.{Ordering}
 use Rattle.clocks.specs.Bank.{Meaning}
 use Rattle.messages.specs.Messages.{MessageNumbers, message_numbers}

@@ -3,14 +3,15 @@ use Rattle.std.specs.Prelude.{◌≡◌, ℕ, List, [], ◌∷◌, ◌++◌, map
 use Rattle.std.specs.declared.cmp.Ordering.{Ordering}
 use Rattle.std.specs.Option.{option_to_list}
 use Rattle.std.specs.Result.{result_unwrap_or}
-use Rattle.clocks.specs.Bank.{Meaning, Taken, look_answer}
+use Rattle.clocks.specs.Bank.{Meaning, Taken}
 use Rattle.clocks.specs.declared.sample.Sample.{Sample}
-use Rattle.history.specs.Events.{Event, Note, Put, Receipt, Send, What}
+use Rattle.history.specs.Events.{Note, Put, Receipt, Send, What}
 use Rattle.history.specs.History.{Cut, Entered, Entry, Read}
 use Rattle.recorder.specs.Answers.{clock_answer, note_answer, put_answer, receipt_answer, send_answer}
+use Rattle.recorder.specs.Changes.{TookReading}
 use Rattle.recorder.specs.State.{State, is_settled}
 use Rattle.stamps.specs.Rules.{StampedNumbers}
-use Rattle.replay.specs.Calls.{AnswerNumbers, answer_numbers, CutAnswer, EventAnswer, LossAnswer, ReadAnswer, UnderWayAnswer, after_call, call_answer, question_answer}
+use Rattle.replay.specs.Calls.{AnswerNumbers, answer_numbers, CutAnswer, ReadAnswer, after_call, call_answer, question_answer}
 use Rattle.replay.specs.declared.call.Answer.{Answer}
 use Rattle.replay.specs.declared.call.Call.{Call}
 use Rattle.replay.specs.declared.call.Call.TheVariants as call
@@ -46,25 +47,20 @@ module _ {B K : Type 0} (order : K → K → Ordering) (meaning : B → Meaning)
     call_entry (call.Put sample key value) = event_entry sample (Put key value) (put_answer meaning s sample)
     call_entry (call.Ask q) = question_entry q (question_answer order (is_settled s) s.contents s.messages q)
 
-    -- An event that answered so took its reading from the bank, which is then this one.
-    abbrev pub TakesFor : Sample → Result StampedNumbers ℕ → B → Type 0
-    TakesFor sample (Ok event) bank = Taken (clock_answer meaning s sample) sample.node (meaning s.bank) (meaning bank)
-    TakesFor sample (Err refusal) bank = bank ≡ s.bank
-
-    -- A call takes the reading of its event, if it has one and is accepted; else the bank stays.
-    abbrev pub TakesReading : Call K → B → Type 0
-    TakesReading (call.Note sample) bank = TakesFor sample (note_answer meaning s sample) bank
-    TakesReading (call.Send sample to number) bank = TakesFor sample (send_answer meaning s sample to number) bank
-    TakesReading (call.Receipt sample number) bank = TakesFor sample (receipt_answer meaning s sample number) bank
-    TakesReading (call.Loss number) bank = bank ≡ s.bank
-    TakesReading (call.Put sample key value) bank = TakesFor sample (put_answer meaning s sample) bank
-    TakesReading (call.Ask q) bank = bank ≡ s.bank
+    -- A call took the reading of its event from the bank, which is then this one; without an accepted event the bank stayed.
+    abbrev pub TookFor : Call K → B → Type 0
+    TookFor (call.Note sample) bank = TookReading meaning sample (note_answer meaning s sample) s.bank bank
+    TookFor (call.Send sample to number) bank = TookReading meaning sample (send_answer meaning s sample to number) s.bank bank
+    TookFor (call.Receipt sample number) bank = TookReading meaning sample (receipt_answer meaning s sample number) s.bank bank
+    TookFor (call.Loss number) bank = bank ≡ s.bank
+    TookFor (call.Put sample key value) bank = TookReading meaning sample (put_answer meaning s sample) s.bank bank
+    TookFor (call.Ask q) bank = bank ≡ s.bank
 
     -- One call: its answer, and the recorder then.
     pub record IsStep (c : Call K) (a : AnswerNumbers K) (next : State B K) : Type 0 where
       pub answer : a ≡ call_answer order meaning s c
       pub change : next ≡ after_call order meaning s c next.bank
-      pub reading : TakesReading c next.bank
+      pub reading : TookFor c next.bank
 
   -- Any list of calls to a recorder that stands at `start`, each with its answer; the history of them; and how the recorder stands then.
   pub data IsRun (start : State B K) : List (Call K) → List (AnswerNumbers K) → List (Entry K) → State B K → Type 0 where

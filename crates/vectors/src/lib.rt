@@ -4,6 +4,8 @@
 #[cfg(test)]
 mod clocks_and_stamps;
 #[cfg(test)]
+mod runs;
+#[cfg(test)]
 mod stores;
 #[cfg(test)]
 mod tags;

@@ -9,24 +9,38 @@ use trace::round::{copy_record, write_and_read};
 // A put by node 0 at raw 1000: point 7 is set to -9.000.
 const PUT: [u8; 18] = *b"\x05\x00\x00\x00\x00\x00\x00\x00\x03\xe8\x00\x00\x00\x07\xff\xff\xdc\xd8";
 
-// Each kind's byte, the length of its body and its line, as the format has them and not by `Kind`.
+// A set-up of one node, with points.
+const SETUP: [u8; 11] = *b"\x00\x01\x00\x00\x00\x00\x00\x00\x00\x00\x00";
+
+// Each kind's byte, the length of its body, and the lines behind a set-up of a record with a body of zero bytes, as the format has
+// them and not by `Kind`.
 const KINDS: [(u8, usize, &str); 9] = [
-    (0, 10, "1 setup\nend 1 0\n"),
-    (1, 9, "1 note\nend 1 0\n"),
-    (2, 14, "1 send\nend 1 0\n"),
-    (3, 13, "1 receipt\nend 1 0\n"),
-    (4, 4, "1 loss\nend 1 0\n"),
-    (5, 17, "1 put\nend 1 0\n"),
-    (6, 29, "1 put\nend 1 0\n"),
-    (7, 12, "1 read\nend 1 0\n"),
-    (8, 24, "1 read\nend 1 0\n"),
+    (0, 10, "2 refused 5\nend 1 1\n"),
+    (1, 9, "2 refused 8\nend 1 1\n"),
+    (2, 14, "2 refused 8\nend 1 1\n"),
+    (3, 13, "2 refused 13\nend 1 1\n"),
+    (4, 4, "2 refused 13\nend 1 1\n"),
+    (5, 17, "2 refused 8\nend 1 1\n"),
+    (6, 29, "2 refused 6\nend 1 1\n"),
+    (7, 12, "2 read none\nend 2 0\n"),
+    (8, 24, "2 refused 6\nend 1 1\n"),
 ];
 
 // The listing of a trace.
 fn listing_of(heap: Global, trace: &[u8]) -> Result<String, AllocError> {
     let mut text = String::new(heap);
-    add_listing(&mut text, trace)?;
+    add_listing(&mut text, heap, trace)?;
     Ok(text)
+}
+
+// The listing of a set-up and some bytes behind it.
+fn listing_behind(heap: Global, behind: &[u8]) -> Result<String, AllocError> {
+    let trace = SETUP
+        .iter()
+        .chain(behind)
+        .copied()
+        .collect::<Vec<u8>>(heap)?;
+    listing_of(heap, &trace)
 }
 
 // A kind's byte and a body of `len` zero bytes.
@@ -82,8 +96,8 @@ fn put_is_read(rt: HostRuntime) -> Result<(), Fail> {
 fn every_kind(rt: HostRuntime) -> Result<(), Fail> {
     for (kind, len, text) in KINDS {
         let bytes = record_bytes(rt.alloc(), kind, len)?;
-        let listed = listing_of(rt.alloc(), bytes.as_slice())?;
-        assert_eq!(rt; listed.as_str(), text);
+        let listed = listing_behind(rt.alloc(), bytes.as_slice())?;
+        assert_eq!(rt; listed.as_str().strip_prefix("1 setup\n"), Some(text));
     }
     Ok(())
 }
@@ -93,8 +107,8 @@ fn every_kind_cut_short(rt: HostRuntime) -> Result<(), Fail> {
     for (kind, len, _) in KINDS {
         for kept in 0..len {
             let bytes = record_bytes(rt.alloc(), kind, kept)?;
-            let listed = listing_of(rt.alloc(), bytes.as_slice())?;
-            assert_eq!(rt; listed.as_str(), "bad 2 at 0\nend 0 0\n");
+            let listed = listing_behind(rt.alloc(), bytes.as_slice())?;
+            assert_eq!(rt; listed.as_str(), "1 setup\nbad 2 at 11\nend 1 0\n");
         }
     }
     Ok(())
@@ -104,8 +118,47 @@ fn every_kind_cut_short(rt: HostRuntime) -> Result<(), Fail> {
 fn unknown_kind(rt: HostRuntime) -> Result<(), Fail> {
     let alone = listing_of(rt.alloc(), &[9])?;
     assert_eq!(rt; alone.as_str(), "bad 1 at 0\nend 0 0\n");
-    let behind = listing_of(rt.alloc(), &[4, 0, 0, 0, 1, 255, 0])?;
-    assert_eq!(rt; behind.as_str(), "1 loss\nbad 1 at 5\nend 1 0\n");
+    let behind = listing_behind(rt.alloc(), &[4, 0, 0, 0, 1, 255, 0])?;
+    assert_eq!(rt;
+        behind.as_str(),
+        "1 setup\n2 refused 13\nbad 1 at 16\nend 1 1\n"
+    );
+    Ok(())
+}
+
+// A first record that is no set-up, and one out of range: no node, 17 nodes, a key kind of 2, a lead and a backstep of a day and 1 ms.
+#[test]
+fn first_record(rt: HostRuntime) -> Result<(), Fail> {
+    let listed = listing_of(rt.alloc(), &[4, 0, 0, 0, 1])?;
+    assert_eq!(rt; listed.as_str(), "bad 5 at 0\nend 0 0\n");
+    for bytes in [
+        b"\x00\x00\x00\x00\x00\x00\x00\x00\x00\x00\x00",
+        b"\x00\x11\x00\x00\x00\x00\x00\x00\x00\x00\x00",
+        b"\x00\x01\x02\x00\x00\x00\x00\x00\x00\x00\x00",
+        b"\x00\x01\x00\x05\x26\x5c\x01\x00\x00\x00\x00",
+        b"\x00\x01\x00\x00\x00\x00\x00\x05\x26\x5c\x01",
+    ] {
+        let listed = listing_of(rt.alloc(), bytes)?;
+        assert_eq!(rt; listed.as_str(), "bad 4 at 0\nend 0 0\n");
+    }
+    Ok(())
+}
+
+// Tags: a put, one with a tag that is no name, one by a point, a note behind it, and a read of the first.
+#[test]
+fn tags_are_listed(rt: HostRuntime) -> Result<(), Fail> {
+    let trace = b"\x00\x01\x01\x00\x00\x00\x00\x00\x00\x00\x00\
+        \x06\x00\x00\x00\x00\x00\x00\x00\x03\xe8PUMP-A\x00\x00\x00\x00\x00\x00\x00\x00\x00\x00\x00\x00\x00\x05\
+        \x06\x00\x00\x00\x00\x00\x00\x00\x03\xe8PUMP A\x00\x00\x00\x00\x00\x00\x00\x00\x00\x00\x00\x00\x00\x05\
+        \x05\x00\x00\x00\x00\x00\x00\x00\x03\xe8\x00\x00\x00\x07\x00\x00\x00\x05\
+        \x01\x00\x00\x00\x00\x00\x00\x00\x03\xe9\
+        \x08\x00\x00\x00\x00\x03\xe8\x00\x00PUMP-A\x00\x00\x00\x00\x00\x00\x00\x00\x00\x00";
+    let listed = listing_of(rt.alloc(), trace)?;
+    assert_eq!(rt;
+        listed.as_str(),
+        "1 setup\n2 put 0 1000.0 drift 0\n3 refused 3\n4 refused 6\n\
+        5 note 0 1001.0 drift 0\n6 read 5 1000.0 0\nend 4 2\n"
+    );
     Ok(())
 }
 
@@ -150,13 +203,9 @@ fn losses(heap: Global, len: usize) -> Result<Vec<u8>, AllocError> {
 
 #[test]
 fn longest(rt: HostRuntime) -> Result<(), Fail> {
-    let bytes = losses(rt.alloc(), LONGEST)?;
-    let listed = listing_of(rt.alloc(), bytes.as_slice())?;
-    assert!(rt;
-        listed
-            .as_str()
-            .ends_with("13107 loss\nbad 2 at 65535\nend 13107 0\n")
-    );
+    let bytes = losses(rt.alloc(), LONGEST - SETUP.len())?;
+    let listed = listing_behind(rt.alloc(), bytes.as_slice())?;
+    assert!(rt; listed.as_str().ends_with("13106 refused 13\nend 1 13105\n"));
     Ok(())
 }
 

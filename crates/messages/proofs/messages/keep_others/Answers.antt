@@ -6,5 +6,6 @@ use Rattle.messages.proofs.messages.keep_others.Goals as goal
 
 pub returns : goal.returns
 returns c =
-    ap (map message_numbers) (filter-from_retain _ (λ m. not (eqb m.number c.args.number)) _ (λ x b f' y called. search rules) _ _ c.retain.ensures.filtered)
+    ap (map message_numbers) (filter-from_retain _ (λ m. not (eqb m.number c.args.number)) _
+    (λ x b f' y called. search rules) _ _ c.retain.ensures.filtered)
     ∙ filter-map message_numbers (λ m. not (has_number c.args.number m)) c.args.messages.now.items

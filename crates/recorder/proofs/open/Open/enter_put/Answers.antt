@@ -31,3 +31,6 @@ invariant_of-self-2 g c =
     let put = behind_put c.self.inside.stamper.last (g.S.VersionStore.contents c.self.inside.store) c.self.invariant g.K.Ord.cmp (record { key = c.args.key; stamp = c.code.result; node = c.args.sample.node; value = to_z w32 (of_z w32 c.args.value) }) (stamp_of c.args.stamped.stamp) c.code.ensures.code node later in
     let clock = subst (λ s. IsOk (clock_answer g.B.ClockBank.meaning s c.args.sample)) (sym c.self.view_is) c.requires.clock in
     rw (when_read _ c.enter.result _ clock c.enter.ensures.answer c.enter.ensures.last, c.add.ensures.change) put
+
+pub returns-in_err-add-clause-beside : goal.returns-in_err-add-clause-beside
+returns-in_err-add-clause-beside g c = absurd (refused g c)

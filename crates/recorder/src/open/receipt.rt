@@ -1,0 +1,40 @@
+// Receipts.
+ghost use Rattle.std.specs.Prelude.{◌≡◌};
+ghost use Rattle.recorder.specs.Answers.{receipt_answer};
+ghost use Rattle.recorder.specs.Changes.{TookBeside, TookReading, after_receipt};
+ghost use Rattle.refusals.specs.Refusals.{result_map, shown};
+ghost use Rattle.stamps.specs.Rules.{stamped_numbers};
+
+use crate::open::Open;
+use clocks::bank::ClockBank;
+use clocks::sample::Sample;
+use keys::kind::KeyKind;
+use refusals::refusal::Refusal;
+use stamps::stamped::Stamped;
+use store::version_store::VersionStore;
+
+impl<B: ClockBank, K: KeyKind, S: VersionStore<K>> Open<B, K, S> {
+    // The receipt of a message that is under way.
+    pub fn receipt(&mut self, sample: Sample, number: u32) -> Result<Stamped, Refusal>
+        ensures answer { shown (result_map stamped_numbers result)
+            ≡ receipt_answer B.meaning self.old sample number }
+        ensures change { self.new ≡ after_receipt self.old sample number
+            (shown (result_map stamped_numbers result)) self.new.bank }
+        ensures reading { TookReading B.meaning sample (shown (result_map stamped_numbers result))
+            self.old.bank self.new.bank }
+        ensures beside { TookBeside B.meaning B.beside sample (shown (result_map stamped_numbers result))
+            self.old.bank self.new.bank }
+    {
+        self.check_node(sample.node)?;
+        let Some(message) = self.messages.find(number) else {
+            return Err(Refusal::NumberNotUnderWay);
+        };
+        if message.to != sample.node {
+            return Err(Refusal::OtherAddressee);
+        }
+        let stamped = self.stamper.receipt(sample, self.lead, message.stamp)?;
+        self.stamper.enter(sample, stamped)?;
+        self.messages.remove(number);
+        Ok(stamped)
+    }
+}

@@ -3,10 +3,10 @@ use Rattle.std.proofs.Common.{◌≡◌, ℕ, Bool, true, false, List, length, O
 use Rattle.std.proofs.lemmas.Bool.Decides.{nat_tests}
 use Rattle.keys.specs.Laws.{same_tag}
 use Rattle.keys.specs.Making.{is_tag, named, sixteen, tag_if, tag_of_bytes}
-use Rattle.keys.specs.Name.{is_padded_name, tag_answer}
+use Rattle.keys.specs.Name.{tag_answer}
 use Rattle.keys.specs.Tag.{bytes_of}
 use Rattle.keys.specs.declared.tag.Tag.{Tag}
-use Rattle.refusals.specs.Refusals.{result_map, shown, number_of}
+use Rattle.refusals.specs.Refusals.{result_map, shown}
 use Rattle.refusals.specs.declared.refusal.Refusal.{Refusal}
 
 same_bytes : (bytes : List ℕ) (tag : Tag) → is_tag bytes ≡ true → shown (result_map bytes_of (Ok tag)) ≡ tag_answer bytes → tag.bytes ≡ bytes

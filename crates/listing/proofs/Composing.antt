@@ -3,7 +3,7 @@ use Rattle.std.proofs.Common.{◌≡◌, ℕ, ◌+◌, List, [], ◌∷◌, ◌+
 use Rattle.lines.specs.Adding.{Adds}
 use Rattle.lines.specs.declared.line.Piece.{Piece}
 use Rattle.lines.proofs.Adding.{OnTheWay, onward, start, step, stop}
-use Rattle.trace.specs.Contents.{Content, content_of}
+use Rattle.trace.specs.Contents.{content_of}
 use Rattle.trace.specs.Whole.{Ending}
 use Rattle.trace.specs.declared.records.Record.{Record}
 use Rattle.listing.specs.Lines.{Outcome, accepted_among, end_line, ending_lines, outcome_for, outcome_line, outcome_lines, refused_among}

@@ -1,7 +1,7 @@
 -- What is known between two records of a trace that is being read.
-use Rattle.std.proofs.Common.{◌≡◌, ℕ, ◌+◌, ◌≤◌, List, ◌++◌, ◌∷◌, length, map, Some, None, Ok, Err, [], ap, ◌∙◌, sym, refl, append_assoc, append-nil, arith}
+use Rattle.std.proofs.Common.{◌≡◌, ℕ, ◌+◌, ◌≤◌, List, ◌++◌, ◌∷◌, length, map, Some, None, Ok, Err, [], ap, ◌∙◌, sym, append_assoc, append-nil, arith}
 use Rattle.std.proofs.lemmas.List.{map-append}
-use Rattle.trace.specs.Contents.{Content, content_of, size_of}
+use Rattle.trace.specs.Contents.{content_of, size_of}
 use Rattle.trace.specs.Format.{place_behind}
 use Rattle.trace.specs.Readers.{reader_trace, reader_offset, next_finding}
 use Rattle.trace.specs.declared.reader.Reader.{Reader}
@@ -26,7 +26,7 @@ module _ {bs : List ℕ} {reader : Reader} {records : List Record} (g : AreRead 
       let behind : reader_offset later ≡ at + size_of m = o ∙ ap (place_behind at) e in
       let here = rest_record bs at i m h (rw (← g.same) e) in
       let moved : (map content_of records ++ m ∷ []) ++ (rest bs (at + size_of m)).records ≡ (whole_of bs).records =
-          append_assoc (map content_of records) (m ∷ []) (rest bs (at + size_of m)).records ∙ ap (λ (w : Whole). map content_of records ++ w.records) (sym here) ∙ g.list in
+      append_assoc (map content_of records) (m ∷ []) (rest bs (at + size_of m)).records ∙ ap (λ (w : Whole). map content_of records ++ w.records) (sym here) ∙ g.list in
       record {
         list = rw (behind, map-append content_of records (r ∷ [])) moved;
         ending = rw behind (ap (λ (w : Whole). w.ending) (sym here) ∙ g.ending);
@@ -36,12 +36,14 @@ module _ {bs : List ℕ} {reader : Reader} {records : List Record} (g : AreRead 
   -- none more: the trace ends, or what follows is refused
   pub read_all : next_finding reader ≡ Ok None → (map content_of records ≡ (whole_of bs).records) × (complete ≡ (whole_of bs).ending)
   read_all e =
-      let here = rest_end bs (reader_offset reader) (rw (← g.same) e) in
-      (sym (append-nil (map content_of records)) ∙ ap (λ (w : Whole). map content_of records ++ w.records) (sym here) ∙ g.list,
-       ap (λ (w : Whole). w.ending) (sym here) ∙ g.ending)
+      let here = rest_end bs (reader_offset reader) (rw (← g.same) e) in (
+        sym (append-nil (map content_of records)) ∙ ap (λ (w : Whole). map content_of records ++ w.records) (sym here) ∙ g.list,
+        ap (λ (w : Whole). w.ending) (sym here) ∙ g.ending,
+      )
 
   pub read_bad : (k : ℕ) → next_finding reader ≡ Err k → (map content_of records ≡ (whole_of bs).records) × (refused k (reader_offset reader) ≡ (whole_of bs).ending)
   read_bad k e =
-      let here = rest_refused bs (reader_offset reader) k (rw (← g.same) e) in
-      (sym (append-nil (map content_of records)) ∙ ap (λ (w : Whole). map content_of records ++ w.records) (sym here) ∙ g.list,
-       ap (λ (w : Whole). w.ending) (sym here) ∙ g.ending)
+      let here = rest_refused bs (reader_offset reader) k (rw (← g.same) e) in (
+        sym (append-nil (map content_of records)) ∙ ap (λ (w : Whole). map content_of records ++ w.records) (sym here) ∙ g.list,
+        ap (λ (w : Whole). w.ending) (sym here) ∙ g.ending,
+      )

@@ -1,5 +1,5 @@
 -- The text that the program prints.
-use Rattle.std.specs.Prelude.{ℕ, ◌+◌, if◌then◌else◌, List, [], ◌∷◌, ◌++◌, length, nat_le, Ok, Err, Result}
+use Rattle.std.specs.Prelude.{ℕ, if◌then◌else◌, List, [], ◌∷◌, ◌++◌, length, nat_le, Ok, Err, Result}
 use Rattle.std.specs.Ordering.{nat_cmp}
 use Rattle.std.specs.declared.cmp.Ordering.{Ordering}
 use Rattle.clocks.specs.Bank.{Meaning}
@@ -14,7 +14,7 @@ use Rattle.recorder.specs.State.{State, fresh_state}
 use Rattle.replay.specs.Calls.{after_call, call_answer}
 use Rattle.replay.specs.declared.call.Call.{Call}
 use Rattle.trace.specs.Contents.{Content}
-use Rattle.trace.specs.Whole.{Ending, Whole, refused, whole_of}
+use Rattle.trace.specs.Whole.{Ending, refused, whole_of}
 use Rattle.listing.specs.Calls.{KeyForm, call_of, points, tags}
 use Rattle.listing.specs.Lines.{Outcome, accepted_among, answered, end_line, ending_lines, outcome_for, outcome_lines, refused_among}
 use Rattle.listing.specs.Machine.{highs_after}

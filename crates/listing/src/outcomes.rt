@@ -1,12 +1,12 @@
 // The lines of a listing.
-ghost use Rattle.std.specs.Prelude.{◌≡◌, ◌++◌, ◌<◌, IfOk, IsOk, length, map};
-ghost use Rattle.lines.specs.Adding.{Adds, AddsInRoom};
+ghost use Rattle.std.specs.Prelude.{◌≡◌, ◌+◌, ◌++◌, ◌<◌, ◌^◌, IsOk, is_ok, length, map};
+ghost use Rattle.lines.specs.Adding.{AddsInRoom};
 ghost use Rattle.refusals.specs.Refusals.{number_of, result_map, shown};
 ghost use Rattle.replay.specs.Calls.{answer_numbers};
 ghost use Rattle.trace.specs.Contents.{content_of};
 ghost use Rattle.listing.specs.Calls.{call_of, calls_of};
-ghost use Rattle.listing.specs.Lines.{answer_pieces as answer_pieces_of, bad_line, end_line, ending_lines, outcome_for, outcome_line, outcome_lines, record_pieces as record_pieces_of};
-ghost use Rattle.listing.specs.Outcomes.{AreCounts, answers_left, next_outcome, recorded};
+ghost use Rattle.listing.specs.Lines.{answer_pieces as answer_pieces_of, bad_line, end_line, ending_lines, outcome_for, outcome_line, record_pieces as record_pieces_of};
+ghost use Rattle.listing.specs.Outcomes.{AddsOutcomes, after_one, answers_left, next_outcome, recorded};
 ghost use Rattle.listing.specs.Reading.{ending_of};
 
 use crate::calls::{TraceKey, call_for};
@@ -18,7 +18,6 @@ use refusals::refusal::Refusal;
 use replay::call::Answer;
 use stamps::stamped::Stamped;
 use std::alloc::AllocError;
-use store::version::Version;
 use trace::records::Record;
 
 // What a record is: a word; the node of an event, and the number of a message that was lost.
@@ -57,12 +56,10 @@ fn answer_pieces<K: TraceKey>(answer: &Answer<K>) -> Result<ArrayVec<Piece, 3>, 
         }
         Answer::Loss(loss) => loss?,
         Answer::Read(found) => match found? {
-            Some(Version {
-                value, stamp, node, ..
-            }) => {
-                pieces.push(Piece::Signed(value));
-                pieces.push(Piece::Stamp(stamp));
-                pieces.push(Piece::Number(u64::from(node)));
+            Some(version) => {
+                pieces.push(Piece::Signed(version.value));
+                pieces.push(Piece::Stamp(version.stamp));
+                pieces.push(Piece::Number(u64::from(version.node)));
             }
             None => pieces.push(Piece::Word(Word::Nothing)),
         },
@@ -82,7 +79,7 @@ pub(crate) fn add_outcome(
     more: Result<ArrayVec<Piece, 3>, Refusal>,
 ) -> Result<(), AllocError>
     ensures { let outcome = outcome_for (content_of «record».now)
-            (shown (result_map (λ pieces. pieces.items) more)) in
+        (shown (result_map (λ pieces. pieces.items) more)) in
         AddsInRoom text.old text.new (outcome_line number outcome) result }
 {
     let number = Piece::Number(number);
@@ -113,7 +110,7 @@ fn next_of<'a, K: TraceKey>(record: &Record, answers: &'a [Answer<K>]) -> Next<'
     requires { IsOk (call_of K.form (content_of «record».now)) → 0 < length answers.now }
     ensures more { let m = content_of «record».now in
         outcome_for m (shown (result_map (λ pieces. pieces.items) result.more))
-            ≡ next_outcome m (call_of K.form m) (map answer_numbers answers.now) }
+        ≡ next_outcome m (call_of K.form m) (map answer_numbers answers.now) }
     ensures left { map answer_numbers result.left.now
         ≡ answers_left (call_of K.form (content_of «record».now)) (map answer_numbers answers.now) }
 {
@@ -139,6 +136,25 @@ pub(crate) struct Counts {
     pub(crate) refused: u64,
 }
 
+impl Counts {
+    // With one record more.
+    fn with<T>(self, outcome: &Result<T, Refusal>) -> Counts
+        requires { self.accepted + self.refused + 1 < 2 ^ 64 }
+        ensures { result ≡ after_one (is_ok outcome.now) self }
+    {
+        match outcome {
+            Ok(_) => Counts {
+                accepted: self.accepted + 1,
+                ..self
+            },
+            Err(_) => Counts {
+                refused: self.refused + 1,
+                ..self
+            },
+        }
+    }
+}
+
 // The lines of the records behind the set-up, which is the first and was accepted; and the counts of all of them.
 pub(crate) fn add_outcomes<K: TraceKey>(
     text: &mut String,
@@ -146,12 +162,8 @@ pub(crate) fn add_outcomes<K: TraceKey>(
     answers: &[Answer<K>],
 ) -> Result<Counts, AllocError>
     requires { length answers.now ≡ length (calls_of K.form (map content_of records.now)) }
-    ensures text { let outcomes = recorded K.form (map content_of records.now)
-            (map answer_numbers answers.now) in
-        Adds text.old text.new (outcome_lines 2 outcomes) result }
-    ensures counts { let outcomes = recorded K.form (map content_of records.now)
-            (map answer_numbers answers.now) in
-        IfOk result (AreCounts outcomes) }
+    ensures { let answers = map answer_numbers answers.now in
+        AddsOutcomes text.old text.new (recorded K.form (map content_of records.now) answers) result }
 {
     let mut counts = Counts {
         accepted: 1,
@@ -162,10 +174,7 @@ pub(crate) fn add_outcomes<K: TraceKey>(
         let number = counts.accepted + counts.refused + 1;
         let next = next_of(record, left);
         left = next.left;
-        match next.more {
-            Ok(_) => counts.accepted += 1,
-            Err(_) => counts.refused += 1,
-        }
+        counts = counts.with(&next.more);
         add_outcome(text, number, record, next.more)?;
     }
     Ok(counts)
@@ -187,11 +196,7 @@ fn add_bad(text: &mut String, bad: Bad) -> Result<(), AllocError>
 }
 
 // The last lines: where no more was read, if so, and the counts.
-pub(crate) fn add_end(
-    text: &mut String,
-    bad: Option<Bad>,
-    counts: Counts,
-) -> Result<(), AllocError>
+pub(crate) fn add_end(text: &mut String, bad: Option<Bad>, counts: Counts) -> Result<(), AllocError>
     ensures { let last = ending_lines (ending_of bad) ++ end_line counts.accepted counts.refused in
         AddsInRoom text.old text.new last result }
 {

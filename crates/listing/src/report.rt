@@ -1,6 +1,6 @@
 // The text of a listing.
-ghost use Rattle.std.specs.Prelude.{map};
-ghost use Rattle.lines.specs.Adding.{Adds};
+ghost use Rattle.std.specs.Prelude.{◌<◌, length, map};
+ghost use Rattle.lines.specs.Adding.{Adds, AddsInRoom};
 ghost use Rattle.trace.specs.Contents.{content_of};
 ghost use Rattle.trace.specs.Whole.{SplitsOneWay};
 ghost use Rattle.listing.specs.Reading.{ending_of};
@@ -40,16 +40,26 @@ fn add_records(text: &mut String, heap: Global, records: &Records) -> Result<(),
     }
 }
 
-// Adds the whole listing of a trace to the text. The only failure is want of memory; the text has
-// then gained at most a first part of it.
-#[tactic(auto, using(crate::proofs::Splitting::bytes_split))]
-pub fn add_listing(text: &mut String, heap: Global, trace: &[u8]) -> Result<(), AllocError>
+fn add_text(text: &mut String, heap: Global, trace: &[u8]) -> Result<(), AllocError>
     ensures text { Adds text.old text.new (text_of trace.now) result }
-    ensures records { SplitsOneWay trace.now }
+    ensures room { 65536 < length trace.now
+        → AddsInRoom text.old text.new (text_of trace.now) result }
 {
     if trace.len() > LONGEST {
         return add_line(text, &[Piece::Word(Word::TooLong)]);
     }
     let records = read_records(heap, trace)?;
     add_records(text, heap, &records)
+}
+
+// Adds the whole listing of a trace to the text. The only failure is want of memory; the text has
+// then gained at most a first part of it. A trace that is too long needs no memory but the text's.
+#[tactic(auto, using(crate::proofs::Splitting::bytes_split))]
+pub fn add_listing(text: &mut String, heap: Global, trace: &[u8]) -> Result<(), AllocError>
+    ensures text { Adds text.old text.new (text_of trace.now) result }
+    ensures room { 65536 < length trace.now
+        → AddsInRoom text.old text.new (text_of trace.now) result }
+    ensures records { SplitsOneWay trace.now }
+{
+    add_text(text, heap, trace)
 }

@@ -2,15 +2,13 @@
 ghost use Rattle.std.specs.Prelude.{◌≡◌, IfOk, map};
 ghost use Rattle.clocks.specs.Highs.{fresh_highs};
 ghost use Rattle.clocks.specs.Settings.{backstep_of};
-ghost use Rattle.lines.specs.Adding.{Adds};
 ghost use Rattle.recorder.specs.Settings.{setting_numbers};
 ghost use Rattle.recorder.specs.State.{fresh_state};
 ghost use Rattle.replay.specs.Calls.{answer_numbers};
 ghost use Rattle.trace.specs.Contents.{content_of};
 ghost use Rattle.listing.specs.Calls.{calls_of};
-ghost use Rattle.listing.specs.Lines.{outcome_lines};
 ghost use Rattle.listing.specs.Machine.{trace_answers};
-ghost use Rattle.listing.specs.Outcomes.{AreCounts};
+ghost use Rattle.listing.specs.Outcomes.{AddsOutcomes};
 ghost use Rattle.listing.specs.SetUp.{set_up_numbers};
 ghost use Rattle.listing.specs.Text.{outcomes, outcomes_for};
 
@@ -53,7 +51,7 @@ fn answers_for<K: TraceKey, S: Listable<K> + Drop>(
     ensures { let start = fresh_state (setting_numbers setup.settings) fresh_highs store in
         let calls = calls_of K.form (map content_of records.now) in
         IfOk result (λ answers. map answer_numbers answers.items
-            ≡ trace_answers K.cmp (backstep_of setup.backstep) start calls) }
+        ≡ trace_answers K.cmp (backstep_of setup.backstep) start calls) }
 {
     let run = Run {
         calls: calls_for(heap, records)?,
@@ -75,12 +73,9 @@ fn add_run_in<K: TraceKey, S: Listable<K> + Drop>(
     store: EmptyStore<K, S>,
     records: &[Record],
 ) -> Result<Counts, AllocError>
-    ensures text { let start = fresh_state (setting_numbers setup.settings) fresh_highs store in
+    ensures { let start = fresh_state (setting_numbers setup.settings) fresh_highs store in
         let all = outcomes K.form K.cmp (backstep_of setup.backstep) start (map content_of records.now) in
-        Adds text.old text.new (outcome_lines 2 all) result }
-    ensures counts { let start = fresh_state (setting_numbers setup.settings) fresh_highs store in
-        let all = outcomes K.form K.cmp (backstep_of setup.backstep) start (map content_of records.now) in
-        IfOk result (AreCounts all) }
+        AddsOutcomes text.old text.new all result }
 {
     let answers = answers_for(heap, setup, store, records)?;
     add_outcomes(text, records, &answers)
@@ -93,10 +88,8 @@ pub(crate) fn add_run(
     setup: SetUp,
     records: &[Record],
 ) -> Result<Counts, AllocError>
-    ensures text { let all = outcomes_for setup.keys (set_up_numbers setup) (map content_of records.now) in
-        Adds text.old text.new (outcome_lines 2 all) result }
-    ensures counts { let all = outcomes_for setup.keys (set_up_numbers setup) (map content_of records.now) in
-        IfOk result (AreCounts all) }
+    ensures { let all = outcomes_for setup.keys (set_up_numbers setup) (map content_of records.now) in
+        AddsOutcomes text.old text.new all result }
 {
     match setup.keys {
         Keys::Points => {

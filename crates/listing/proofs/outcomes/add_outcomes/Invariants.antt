@@ -1,4 +1,4 @@
-use Rattle.std.proofs.Common.{◌+◌, map}
+use Rattle.std.proofs.Common.{map}
 use Rattle.replay.specs.Calls.{answer_numbers}
 use Rattle.listing.proofs.Lining.{IsLined}
 use Rattle.listing.proofs.outcomes.add_outcomes.Given as goal

@@ -1,7 +1,7 @@
 use Rattle.std.proofs.Common.{◌≡◌, Ok, Some, rules}
 use Rattle.trace.specs.Format.{entry_of}
 use Rattle.trace.specs.Readers.{next_finding}
-use Rattle.listing.proofs.Progress.{AreRead, read_more}
+use Rattle.listing.proofs.Progress.{read_more}
 use Rattle.listing.proofs.reading.read_records.Goals as goal
 
 pub loop-entry-preserved : goal.loop-entry-preserved

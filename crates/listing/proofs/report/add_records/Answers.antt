@@ -1,4 +1,4 @@
-use Rattle.std.proofs.Common.{◌≡◌, ◌∷◌, sym, ◌∙◌}
+use Rattle.std.proofs.Common.{sym, ◌∙◌}
 use Rattle.listing.proofs.Composing.{all_added, first_failed, others_failed}
 use Rattle.listing.proofs.report.add_records.Goals as goal
 

@@ -1,5 +1,5 @@
 -- What is known between the lines of two records.
-use Rattle.std.proofs.Common.{◌≡◌, ℕ, suc, ◌+◌, ◌<◌, Bool, false, if◌then◌else◌, List, ◌++◌, ◌∷◌, [], length, map, drop, get_or, Ok, Err, Result, String, is_ok, is_err, true, ◌≤◌, ap, ◌∙◌, refl, arith}
+use Rattle.std.proofs.Common.{◌≡◌, ℕ, suc, ◌+◌, ◌<◌, Bool, List, ◌++◌, ◌∷◌, [], length, map, drop, get_or, Ok, Err, Result, String, is_ok, is_err, true, ◌≤◌, ap, ◌∙◌, refl, arith}
 use Rattle.std.proofs.lemmas.List.{at_drop_all, at_drop_more}
 use Rattle.std.proofs.lemmas.Bool.Decides.{nat_tests}
 use Rattle.std.proofs.lemmas.Grind.{common_steps}

@@ -38,7 +38,7 @@ impl<B: ClockBank> ClockBank for NeverBackwards<B> {
     ghost beside = { λ sample answer old new.
         TakenBelow answer sample.node sample.raw.0 (B.meaning (bank_below old)) (B.meaning (bank_below new))
         × BesideBelow B.beside sample answer
-            (look_answer (B.meaning (bank_below old)) sample.node sample.raw.0) (bank_below old) (bank_below new) };
+        (look_answer (B.meaning (bank_below old)) sample.node sample.raw.0) (bank_below old) (bank_below new) };
 
     ghost lawful = { Prim.search (rules, high_limited) };
 

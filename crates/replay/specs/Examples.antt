@@ -1,5 +1,5 @@
 -- One short run, written out: its calls, what each answers, and all that the history is told of it.
-use Rattle.std.specs.Prelude.{◌≡◌, ℕ, pos, true, List, [], ◌∷◌, map, Some, None, Ok, Err, Result, Vec}
+use Rattle.std.specs.Prelude.{◌≡◌, ℕ, pos, true, false, List, [], ◌∷◌, map, Some, None, Ok, Err, Result, Vec}
 use Rattle.std.specs.declared.alloc.Global.{Global}
 use Rattle.std.specs.Ordering.{nat_cmp}
 use Rattle.clocks.specs.Bank.{Meaning}
@@ -116,11 +116,13 @@ told =
 abbrev pub told_then : ℕ → List (Entry ℕ)
 told_then code = Closed ∷ Read 8 code None ∷ Cut 0xffff_ffff_ffff_ffff 1 (version ∷ []) ∷ []
 
--- The recorder comes to stand so that all this is said of it.
+-- There are such rows, and whatever stands in them: a fresh recorder gives these answers to the calls, its history is told this of
+-- them, and it then stands so that this is answered and told behind a close. With no close, the cut is refused and not told.
 abbrev pub RunIsTold : Type 0
 RunIsTold =
-    (rows : Rows) (code : ℕ) → (end : State (ℕ → ℕ) ℕ)
+    Rows × ((rows : Rows) (code : ℕ) → (end : State (ℕ → ℕ) ℕ)
     × IsRun nat_cmp clocks nothing_beside fresh (calls rows) (answers rows) told end
     × (map (end_answer nat_cmp clocks true end) (questions rows code)
     ≡ ReadAnswer (Ok None) ∷ CutAnswer (Ok 1) (version ∷ []) ∷ [])
     × (end_entries nat_cmp clocks true end (questions rows code) ≡ told_then code)
+    × (end_entries nat_cmp clocks false end (questions rows 65536002) ≡ Read 8 65536002 None ∷ []))

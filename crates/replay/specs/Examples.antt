@@ -101,6 +101,10 @@ module _ (rows : Rows) where
   abbrev pub questions : ℕ → List (Question ℕ)
   questions code = question.Read 8 code ∷ question.Cut 0xffff_ffff_ffff_ffff rows.one ∷ []
 
+-- and what these answer
+abbrev pub answers_then : List (AnswerNumbers ℕ)
+answers_then = ReadAnswer (Ok None) ∷ CutAnswer (Ok 1) (version ∷ []) ∷ []
+
 -- what the history is told of the calls: of each event that was accepted, and of each read and each cut that was answered
 abbrev pub told : List (Entry ℕ)
 told =
@@ -116,13 +120,12 @@ told =
 abbrev pub told_then : ℕ → List (Entry ℕ)
 told_then code = Closed ∷ Read 8 code None ∷ Cut 0xffff_ffff_ffff_ffff 1 (version ∷ []) ∷ []
 
--- There are such rows, and whatever stands in them: a fresh recorder gives these answers to the calls, its history is told this of
--- them, and it then stands so that this is answered and told behind a close. With no close, the cut is refused and not told.
+-- There are such rows, and whatever stands in them: a fresh recorder gives these answers to the calls, its history is told this
+-- of them, and it then stands so that this is answered and told behind a close. With no close, the cut is refused and not told.
 abbrev pub RunIsTold : Type 0
 RunIsTold =
     Rows × ((rows : Rows) (code : ℕ) → (end : State (ℕ → ℕ) ℕ)
     × IsRun nat_cmp clocks nothing_beside fresh (calls rows) (answers rows) told end
-    × (map (end_answer nat_cmp clocks true end) (questions rows code)
-    ≡ ReadAnswer (Ok None) ∷ CutAnswer (Ok 1) (version ∷ []) ∷ [])
+    × (map (end_answer nat_cmp clocks true end) (questions rows code) ≡ answers_then)
     × (end_entries nat_cmp clocks true end (questions rows code) ≡ told_then code)
     × (end_entries nat_cmp clocks false end (questions rows 65536002) ≡ Read 8 65536002 None ∷ []))

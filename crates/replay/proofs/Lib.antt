@@ -2,3 +2,4 @@ mod Gaining
 mod Standing
 mod Asking
 pub mod Whole
+pub mod Written

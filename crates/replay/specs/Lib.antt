@@ -2,3 +2,4 @@ pub mod Calls
 pub mod Runs
 pub mod Replay
 pub mod Within
+pub mod Examples

@@ -3,4 +3,5 @@
 
 mod ask;
 pub mod call;
+pub mod examples;
 pub mod replay;

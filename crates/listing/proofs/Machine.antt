@@ -10,8 +10,8 @@ use Rattle.clocks.specs.TraceClocks.{fresh_trace, trace_meaning}
 use Rattle.clocks.specs.declared.sample.Sample.{Sample}
 use Rattle.history.specs.History.{Entry}
 use Rattle.recorder.specs.Answers.{clock_answer}
-use Rattle.recorder.specs.Changes.{TookReading}
-use Rattle.recorder.specs.Settings.{SettingNumbers}
+use Rattle.stamper.specs.Readings.{TookReading}
+use Rattle.stamper.specs.Settings.{SettingNumbers}
 use Rattle.recorder.specs.State.{State, fresh_state}
 use Rattle.replay.specs.Calls.{AnswerNumbers, after_call, call_answer}
 use Rattle.replay.specs.Runs.{IsRun, IsCalled, NoCall, OneMore, TookFor}

@@ -7,7 +7,7 @@ use Rattle.clocks.specs.Bank.{Meaning}
 use Rattle.clocks.specs.Highs.{fresh_highs}
 use Rattle.clocks.specs.TraceClocks.{fresh_trace, trace_meaning}
 use Rattle.clocks.specs.declared.sample.Sample.{Sample}
-use Rattle.recorder.specs.Settings.{SettingNumbers}
+use Rattle.stamper.specs.Settings.{SettingNumbers}
 use Rattle.recorder.specs.State.{State, fresh_state}
 use Rattle.replay.specs.Calls.{AnswerNumbers, answer_numbers}
 use Rattle.replay.specs.Replay.{GainsAnswers, end_answer}

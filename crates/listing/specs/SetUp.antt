@@ -1,7 +1,7 @@
 -- The set-up, which the first record has to be.
 use Rattle.std.specs.Prelude.{ℕ, ◌&&◌, ◌==◌, if◌then◌else◌, Ok, Err, Result, nat_le}
 use Rattle.clocks.specs.Limits.{day_millis}
-use Rattle.recorder.specs.Settings.{SettingNumbers, most_nodes, setting_numbers}
+use Rattle.stamper.specs.Settings.{SettingNumbers, most_nodes, setting_numbers}
 use Rattle.trace.specs.Contents.{Content, set_up, note, send, receipt, loss, put_point, put_tag, read_point, read_tag}
 use Rattle.clocks.specs.Settings.{backstep_of}
 use Rattle.listing.specs.declared.setup.Keys.{Keys}

@@ -2,7 +2,7 @@
 ghost use Rattle.std.specs.Prelude.{◌≡◌, IfOk, map};
 ghost use Rattle.clocks.specs.Highs.{fresh_highs};
 ghost use Rattle.clocks.specs.Settings.{backstep_of};
-ghost use Rattle.recorder.specs.Settings.{setting_numbers};
+ghost use Rattle.stamper.specs.Settings.{setting_numbers};
 ghost use Rattle.recorder.specs.State.{fresh_state};
 ghost use Rattle.replay.specs.Calls.{answer_numbers};
 ghost use Rattle.trace.specs.Contents.{content_of};

@@ -4,7 +4,7 @@ ghost use Rattle.refusals.specs.Refusals.{result_map, shown};
 ghost use Rattle.trace.specs.Contents.{content_of};
 
 use clocks::backstep::Backstep;
-use recorder::settings::Settings;
+use stamper::settings::Settings;
 use refusals::refusal::Refusal;
 use trace::records::Record;
 

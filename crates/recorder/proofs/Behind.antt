@@ -1,5 +1,5 @@
 -- No version is above the last stamp of its node.
-use Rattle.std.proofs.Common.{◌≡◌, ℕ, ◌<◌, ◌≤◌, inl, inr, Bool, true, false, List, length, nat_le, Ok, Err, Result, IsOk, OnOk, refl, arith}
+use Rattle.std.proofs.Common.{◌≡◌, ℕ, ◌<◌, ◌≤◌, inl, inr, Bool, true, false, if◌then◌else◌, List, length, nat_le, Ok, Err, Result, IsOk, OnOk, refl, arith}
 use Rattle.std.specs.declared.cmp.Ordering.{Ordering}
 use Rattle.std.proofs.lemmas.Bool.{cases_eq}
 use Rattle.std.proofs.lemmas.Bool.Decides.{nat_tests}
@@ -11,8 +11,8 @@ use Rattle.store.specs.Contents.{Contents, add_answer, after_add}
 use Rattle.store.specs.Versions.{has_id}
 use Rattle.store.specs.declared.version.Version.{Version}
 use Rattle.store.proofs.Adding.{in_with_version, no_id}
-use Rattle.recorder.specs.Answers.{taken_answer}
-use Rattle.recorder.specs.Stamps.{stamp_at, with_last}
+use Rattle.stamper.specs.Readings.{taken_answer}
+use Rattle.stamper.specs.Stamps.{stamp_at, with_last}
 use Rattle.recorder.specs.State.{IsBehind}
 
 module _ {K : Type 0} (last : List Timestamp) (contents : Contents K) (behind : IsBehind last contents) where
@@ -50,8 +50,10 @@ module _ {K : Type 0} (last : List Timestamp) (contents : Contents K) (behind : 
     pub behind_put : IsBehind (with_last v.node stamp last) (after_add order contents v)
     behind_put = put_by (nat_le contents.capacity (length contents.versions)) refl
 
--- where the clock answers a reading, the event is entered
-pub when_read : (P : Type 0) (r : Result (Unit {0}) Refusal) (clock : Result ℕ ℕ) → IsOk clock → shown r ≡ taken_answer clock → OnOk r P → P
-when_read P (Ok u) clock read answer holds = holds
-when_read P (Err refusal) (Ok reading) read answer holds = absurd (let z : ◌≡◌ {A = ℕ} 0 1 = cc in omega (arith, z))
-when_read P (Err refusal) (Err number) read answer holds = absurd (let z : ◌≡◌ {A = ℕ} 0 1 = cc in omega (arith, z))
+-- where there is such a node and its clock answers a reading, the event is entered
+pub when_read : (P : Type 0) (r : Result (Unit {0}) Refusal) (inside : Bool) (clock : Result ℕ ℕ)
+    → inside ≡ true → IsOk clock → shown r ≡ (if inside then taken_answer clock else Err 7) → OnOk r P → P
+when_read P (Ok u) inside clock is read answer holds = holds
+when_read P (Err refusal) true (Ok reading) is read answer holds = absurd (let z : ◌≡◌ {A = ℕ} 0 1 = cc in omega (arith, z))
+when_read P (Err refusal) true (Err number) is read answer holds = absurd (let z : ◌≡◌ {A = ℕ} 0 1 = cc in omega (arith, z))
+when_read P (Err refusal) false clock is read answer holds = absurd (let z : ◌≡◌ {A = ℕ} 0 1 = cc in omega (arith, z))

@@ -9,18 +9,9 @@ use Rattle.store.specs.Contents.{Contents}
 use Rattle.store.specs.Newest.{newest}
 use Rattle.store.specs.Page.{after_cut, cut_answer, page}
 use Rattle.store.specs.declared.version.Version.{Version}
-use Rattle.recorder.specs.Stamps.{stamp_at}
+use Rattle.stamper.specs.Readings.{at_reading}
+use Rattle.stamper.specs.Stamps.{stamp_at}
 use Rattle.recorder.specs.State.{State, is_node}
-
--- the rule's answer at the clock's reading; the clock's refusal comes first
-abbrev pub at_reading : (ℕ → Result StampedNumbers ℕ) → Result ℕ ℕ → Result StampedNumbers ℕ
-at_reading rule (Ok reading) = rule reading
-at_reading rule (Err number) = Err number
-
--- whether the clock answers a reading
-abbrev pub taken_answer : Result ℕ ℕ → Result (Unit {0}) ℕ
-taken_answer (Ok reading) = Ok tt
-taken_answer (Err number) = Err number
 
 module _ {B K : Type 0} (meaning : B → Meaning) (s : State B K) where
   -- the reading of the sample's node

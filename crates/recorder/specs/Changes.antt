@@ -1,7 +1,6 @@
 -- What each call of an open recorder changes, by its answer: a refused one nothing at all.
-use Rattle.std.specs.Prelude.{◌≡◌, ℕ, ℤ, List, [], ◌∷◌, ◌++◌, Ok, Err, Result}
+use Rattle.std.specs.Prelude.{ℕ, ℤ, List, [], ◌∷◌, ◌++◌, Ok, Err, Result}
 use Rattle.std.specs.declared.cmp.Ordering.{Ordering}
-use Rattle.clocks.specs.Bank.{Meaning, Taken, look_answer}
 use Rattle.clocks.specs.declared.sample.Sample.{Sample}
 use Rattle.messages.specs.Messages.{MessageNumbers, without}
 use Rattle.stamps.specs.Rules.{StampedNumbers}
@@ -9,17 +8,8 @@ use Rattle.stamps.specs.Stamp.{Timestamp, code_of}
 use Rattle.store.specs.Contents.{Contents}
 use Rattle.store.specs.Versions.{with_version}
 use Rattle.store.specs.declared.version.Version.{Version}
-use Rattle.recorder.specs.Stamps.{with_last}
+use Rattle.stamper.specs.Stamps.{with_last}
 use Rattle.recorder.specs.State.{State}
-
--- An event that answered so took its reading from the bank, which did what else a take of its kind does; a refused one left the
--- bank alone.
-abbrev pub TookReading : {B : Type 0} (meaning : B → Meaning) (beside : Sample → Result ℕ ℕ → B → B → Type 0)
-    → Sample → Result StampedNumbers ℕ → B → B → Type 0
-TookReading meaning beside sample (Ok event) old new =
-    let reading : Result ℕ ℕ = look_answer (meaning old) sample.node sample.raw.0 in
-    Taken reading sample.node (meaning old) (meaning new) × beside sample reading old new
-TookReading meaning beside sample (Err number) old new = new ≡ old
 
 module _ {B K : Type 0} (s : State B K) where
   -- an event of this node got this stamp: then the bank is this one, and so are the messages under way and the contents

@@ -9,7 +9,8 @@ use Rattle.clocks.specs.declared.sample.Sample.{Sample}
 use Rattle.stamps.specs.Rules.{StampedNumbers, lead_receipt_answer, own_answer, receipt_answer}
 use Rattle.stamps.specs.Stamp.{Timestamp, code_of, zero_stamp}
 use Rattle.store.specs.declared.version.Version.{Version}
-use Rattle.recorder.specs.Answers.{at_reading, put_answer, read_answer}
+use Rattle.stamper.specs.Readings.{at_reading}
+use Rattle.recorder.specs.Answers.{put_answer, read_answer}
 use Rattle.recorder.specs.Changes.{after_put}
 use Rattle.recorder.specs.State.{State, fresh_state, is_settled}
 

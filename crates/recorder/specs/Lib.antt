@@ -1,5 +1,3 @@
-pub mod Settings
-pub mod Stamps
 pub mod State
 pub mod Answers
 pub mod Changes

@@ -5,8 +5,8 @@ use Rattle.stamps.specs.Stamp.{Timestamp, code_of}
 use Rattle.store.specs.Contents.{Contents}
 use Rattle.store.specs.Newest.{IsIn}
 use Rattle.store.specs.declared.version.Version.{Version}
-use Rattle.recorder.specs.Settings.{SettingNumbers}
-use Rattle.recorder.specs.Stamps.{no_stamps, none_below, stamp_at}
+use Rattle.stamper.specs.Settings.{SettingNumbers}
+use Rattle.stamper.specs.Stamps.{no_stamps, none_below, stamp_at}
 
 -- An open recorder with a bank of clocks of the type B, and keys of the type K.
 pub record State (B K : Type 0) : Type 0 where

@@ -4,7 +4,4 @@
 pub mod closed;
 pub mod empty_store;
 pub mod examples;
-mod last_stamps;
 pub mod open;
-pub mod settings;
-mod stamper;

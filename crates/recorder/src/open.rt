@@ -1,6 +1,6 @@
 // The open recorder. Each of its calls stands in a file below.
 ghost use Rattle.std.specs.Prelude.{◌≡◌, [], Err, Ok, if◌then◌else◌};
-ghost use Rattle.recorder.specs.Settings.{setting_numbers};
+ghost use Rattle.stamper.specs.Settings.{setting_numbers};
 ghost use Rattle.recorder.specs.State.{closed_state, fresh_state, is_node};
 ghost use Rattle.refusals.specs.Refusals.{shown};
 
@@ -15,20 +15,18 @@ mod send;
 
 use crate::closed::Closed;
 use crate::empty_store::EmptyStore;
-use crate::settings::Settings;
-use crate::stamper::Stamper;
 use clocks::bank::ClockBank;
 use keys::kind::KeyKind;
 use messages::messages::Messages;
 use refusals::refusal::Refusal;
-use stamps::lead::Lead;
+use stamper::settings::Settings;
+use stamper::stamper::Stamper;
 use std::marker::{Model, PhantomData};
 use store::version_store::VersionStore;
 
 // A recorder that is fed.
 #[derive(Drop)]
 pub struct Open<B: ClockBank, K: KeyKind, S: VersionStore<K>> {
-    lead: Lead,
     stamper: Stamper<B>,
     messages: Messages,
     store: S,
@@ -37,12 +35,11 @@ pub struct Open<B: ClockBank, K: KeyKind, S: VersionStore<K>> {
 
 impl<B: ClockBank, K: KeyKind, S: VersionStore<K>> Model for Open<B, K, S> {
     ghost use Rattle.recorder.specs.State.{IsBehind, State};
-    ghost use Rattle.stamps.specs.Lead.{lead_of};
 
     ghost Value = { State B K };
 
     ghost view = { λ recorder. record {
-      lead = lead_of recorder.lead;
+      lead = recorder.stamper.lead;
       bank = recorder.stamper.bank;
       last = recorder.stamper.last;
       messages = recorder.messages;
@@ -59,8 +56,7 @@ impl<B: ClockBank, K: KeyKind, S: VersionStore<K>> Open<B, K, S> {
         ensures empty { result.contents.versions ≡ [] }
     {
         Open {
-            lead: settings.lead(),
-            stamper: Stamper::new(bank, settings.nodes()),
+            stamper: Stamper::new(settings, bank),
             messages: Messages::new(),
             store: store.store,
             keys: PhantomData,

@@ -8,7 +8,7 @@ use Rattle.clocks.specs.declared.sample.Sample.{Sample}
 use Rattle.std.specs.Prelude.{ℕ, Result}
 use Rattle.clocks.specs.Bank.{IsLawful, Meaning}
 use Rattle.keys.specs.Order.{IsKeyOrder}
-use Rattle.recorder.specs.Settings.{SettingNumbers}
+use Rattle.stamper.specs.Settings.{SettingNumbers}
 use Rattle.recorder.specs.State.{ClosedState, State, closed_state, fresh_state, is_settled}
 use Rattle.replay.specs.Calls.{AnswerNumbers, answer_numbers, question_answer}
 use Rattle.replay.specs.Replay.{GainsAnswers, end_answer}

@@ -21,8 +21,8 @@ use Rattle.history.proofs.Lists.{each_push, in_append, one_more}
 use Rattle.history.proofs.OneAnswer.{recorded, recorded_onto}
 use Rattle.history.proofs.Puts.{puts-append}
 use Rattle.recorder.specs.Changes.{with_event}
-use Rattle.recorder.specs.Settings.{SettingNumbers}
-use Rattle.recorder.specs.Stamps.{no_stamps, stamp_at, with_last}
+use Rattle.stamper.specs.Settings.{SettingNumbers}
+use Rattle.stamper.specs.Stamps.{no_stamps, stamp_at, with_last}
 use Rattle.recorder.specs.State.{State, fresh_state}
 use Rattle.replay.specs.Replay.{setup_of}
 

@@ -22,10 +22,12 @@ use Rattle.history.specs.Before.{IsLastSend}
 use Rattle.history.specs.History.{Entered, Entry, IsHistory, IsStamped, Setup, events_of, last_stamp}
 use Rattle.history.proofs.Lawful.{lawful}
 use Rattle.history.proofs.Lists.{each_push, none_passes}
-use Rattle.recorder.specs.Answers.{at_reading, clock_answer, note_answer, put_answer, receipt_answer, send_answer}
-use Rattle.recorder.specs.Changes.{TookReading, after_loss, after_note, after_put, after_receipt, after_send, with_event}
-use Rattle.recorder.specs.Settings.{SettingNumbers}
-use Rattle.recorder.specs.Stamps.{stamp_at}
+use Rattle.recorder.specs.Answers.{clock_answer, note_answer, put_answer, receipt_answer, send_answer}
+use Rattle.stamper.specs.Readings.{at_reading}
+use Rattle.recorder.specs.Changes.{after_loss, after_note, after_put, after_receipt, after_send, with_event}
+use Rattle.stamper.specs.Readings.{TookReading}
+use Rattle.stamper.specs.Settings.{SettingNumbers}
+use Rattle.stamper.specs.Stamps.{stamp_at}
 use Rattle.recorder.specs.State.{State, fresh_state, is_node}
 use Rattle.replay.specs.Calls.{AnswerNumbers, after_call}
 use Rattle.replay.specs.Replay.{IsReplayed, end_answer, setup_of, whole_history}

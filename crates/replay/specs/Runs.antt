@@ -8,7 +8,7 @@ use Rattle.clocks.specs.declared.sample.Sample.{Sample}
 use Rattle.history.specs.Events.{Note, Put, Receipt, Send, What}
 use Rattle.history.specs.History.{Cut, Entered, Entry, Read}
 use Rattle.recorder.specs.Answers.{clock_answer, note_answer, put_answer, receipt_answer, send_answer}
-use Rattle.recorder.specs.Changes.{TookReading}
+use Rattle.stamper.specs.Readings.{TookReading}
 use Rattle.recorder.specs.State.{State, is_settled}
 use Rattle.stamps.specs.Rules.{StampedNumbers}
 use Rattle.replay.specs.Calls.{AnswerNumbers, CutAnswer, ReadAnswer, after_call, call_answer, question_answer}

@@ -1,6 +1,6 @@
 // A whole run.
 ghost use Rattle.std.specs.Prelude.{◌≡◌, ◌+◌, ◌≤◌, length, vec_len, vec_capacity, IsOk, OnErr, OnOk};
-ghost use Rattle.recorder.specs.Settings.{setting_numbers};
+ghost use Rattle.stamper.specs.Settings.{setting_numbers};
 ghost use Rattle.recorder.specs.State.{fresh_state};
 ghost use Rattle.replay.specs.Calls.{answer_numbers};
 ghost use Rattle.replay.specs.Replay.{GainsAnswers};
@@ -13,7 +13,7 @@ use clocks::bank::ClockBank;
 use keys::kind::KeyKind;
 use recorder::empty_store::EmptyStore;
 use recorder::open::Open;
-use recorder::settings::Settings;
+use stamper::settings::Settings;
 use std::alloc::AllocError;
 use store::listable::Listable;
 

@@ -5,7 +5,7 @@ ghost use Rattle.std.specs.Prelude.{◌≡◌, IfOk, Some};
 ghost use Rattle.std.specs.Option.{option_map};
 ghost use Rattle.clocks.specs.TraceClocks.{trace_answer};
 ghost use Rattle.refusals.specs.Refusals.{result_map, shown};
-ghost use Rattle.recorder.specs.Answers.{at_reading};
+ghost use Rattle.stamper.specs.Readings.{at_reading};
 ghost use Rattle.stamps.specs.Rules.{own_answer, stamped_numbers};
 ghost use Rattle.stamps.specs.Stamp.{zero_stamp};
 
@@ -17,7 +17,7 @@ use clocks::trace_clocks::TraceClocks;
 use keys::point::Point;
 use recorder::empty_store::EmptyStore;
 use recorder::open::Open;
-use recorder::settings::Settings;
+use stamper::settings::Settings;
 use refusals::refusal::Refusal;
 use sorted_run::SortedRun;
 use stamps::rules::stamp_own;

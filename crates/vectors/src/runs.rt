@@ -5,7 +5,7 @@ use clocks::trace_clocks::TraceClocks;
 use keys::point::Point;
 use messages::message::Message;
 use recorder::empty_store::EmptyStore;
-use recorder::settings::Settings;
+use stamper::settings::Settings;
 use replay::call::{Answer, Call, Question};
 use replay::replay::{Run, replay};
 use sorted_run::SortedRun;

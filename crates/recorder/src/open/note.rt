@@ -1,7 +1,8 @@
 // Notes.
 ghost use Rattle.std.specs.Prelude.{◌≡◌};
 ghost use Rattle.recorder.specs.Answers.{note_answer};
-ghost use Rattle.recorder.specs.Changes.{TookReading, after_note};
+ghost use Rattle.recorder.specs.Changes.{after_note};
+ghost use Rattle.stamper.specs.Readings.{TookReading};
 ghost use Rattle.refusals.specs.Refusals.{result_map, shown};
 ghost use Rattle.stamps.specs.Rules.{stamped_numbers};
 

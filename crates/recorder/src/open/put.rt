@@ -1,10 +1,11 @@
 // Puts.
 ghost use Rattle.std.specs.Prelude.{◌≡◌, ◌<◌, length, IsOk, Ok};
 ghost use Rattle.recorder.specs.Answers.{clock_answer, put_answer};
-ghost use Rattle.recorder.specs.Changes.{TookReading, after_put};
+ghost use Rattle.recorder.specs.Changes.{after_put};
+ghost use Rattle.stamper.specs.Readings.{TookReading};
 ghost use Rattle.refusals.specs.Refusals.{result_map, shown};
 ghost use Rattle.stamps.specs.Rules.{stamped_numbers};
-ghost use Rattle.recorder.specs.Stamps.{stamp_at};
+ghost use Rattle.stamper.specs.Stamps.{stamp_at};
 ghost use Rattle.stamps.specs.Stamp.{code_of, stamp_code};
 
 use crate::open::Open;

@@ -1,7 +1,8 @@
 // Receipts.
 ghost use Rattle.std.specs.Prelude.{◌≡◌};
 ghost use Rattle.recorder.specs.Answers.{receipt_answer};
-ghost use Rattle.recorder.specs.Changes.{TookReading, after_receipt};
+ghost use Rattle.recorder.specs.Changes.{after_receipt};
+ghost use Rattle.stamper.specs.Readings.{TookReading};
 ghost use Rattle.refusals.specs.Refusals.{result_map, shown};
 ghost use Rattle.stamps.specs.Rules.{stamped_numbers};
 
@@ -30,7 +31,7 @@ impl<B: ClockBank, K: KeyKind, S: VersionStore<K>> Open<B, K, S> {
         if message.to != sample.node {
             return Err(Refusal::OtherAddressee);
         }
-        let stamped = self.stamper.receipt(sample, self.lead, message.stamp)?;
+        let stamped = self.stamper.receipt(sample, message.stamp)?;
         // The clock has answered, so this does not refuse.
         self.stamper.enter(sample, stamped)?;
         self.messages.remove(number);

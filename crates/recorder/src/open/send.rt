@@ -1,7 +1,8 @@
 // Sends.
 ghost use Rattle.std.specs.Prelude.{◌≡◌};
 ghost use Rattle.recorder.specs.Answers.{send_answer};
-ghost use Rattle.recorder.specs.Changes.{TookReading, after_send};
+ghost use Rattle.recorder.specs.Changes.{after_send};
+ghost use Rattle.stamper.specs.Readings.{TookReading};
 ghost use Rattle.refusals.specs.Refusals.{result_map, shown};
 ghost use Rattle.stamps.specs.Rules.{stamped_numbers};
 

@@ -1,7 +1,7 @@
 use Rattle.std.proofs.Common.{◌≡◌, ℕ, Err, Result, ap, ◌∙◌, rules}
 use Rattle.clocks.specs.TraceClocks.{trace_answer}
 use Rattle.refusals.specs.Refusals.{number_of}
-use Rattle.recorder.specs.Answers.{at_reading}
+use Rattle.stamper.specs.Readings.{at_reading}
 use Rattle.stamps.specs.Rules.{own_answer}
 use Rattle.stamps.specs.Stamp.{zero_stamp}
 use Rattle.usage.proofs.first_note.Goals as goal

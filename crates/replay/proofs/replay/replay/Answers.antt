@@ -1,5 +1,5 @@
 use Rattle.std.proofs.Common.{ap, sym, ◌∙◌}
-use Rattle.recorder.specs.Settings.{setting_numbers}
+use Rattle.stamper.specs.Settings.{setting_numbers}
 use Rattle.replay.proofs.Gaining.{gains_answers}
 use Rattle.replay.proofs.replay.replay.Goals as goal
 

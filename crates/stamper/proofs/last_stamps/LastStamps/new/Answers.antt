@@ -1,8 +1,8 @@
 use Rattle.std.proofs.Common.{ap, ◌∙◌, map, replicate}
 use Rattle.std.proofs.lemmas.List.{take-replicate}
 use Rattle.stamps.specs.Stamp.{stamp_of}
-use Rattle.recorder.proofs.Held.{map_replicate}
-use Rattle.recorder.proofs.last_stamps.LastStamps.new.Goals as goal
+use Rattle.stamper.proofs.Held.{map_replicate}
+use Rattle.stamper.proofs.last_stamps.LastStamps.new.Goals as goal
 
 pub returns : goal.returns
 returns c =

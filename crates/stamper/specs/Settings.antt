@@ -2,7 +2,7 @@
 use Rattle.std.specs.Prelude.{ℕ, ◌&&◌, if◌then◌else◌, Ok, Err, Result, nat_le}
 use Rattle.clocks.specs.Limits.{day_millis}
 use Rattle.stamps.specs.Lead.{lead_of}
-use Rattle.recorder.specs.declared.settings.Settings.{Settings}
+use Rattle.stamper.specs.declared.settings.Settings.{Settings}
 
 -- Settings as numbers: how many nodes there are, and E, by how many milliseconds a message's time may be above the reading of the
 -- node that receives it.

@@ -3,8 +3,8 @@ use Rattle.std.proofs.lemmas.Iterator.{YieldsList-from_slice}
 use Rattle.std.proofs.lemmas.Iterator.Search.{all_from_yields_List}
 use Rattle.std.proofs.lemmas.List.Folds.{list_all-map}
 use Rattle.stamps.specs.Stamp.{code_of, stamp_of}
-use Rattle.recorder.specs.Stamps.{none_below}
-use Rattle.recorder.proofs.last_stamps.LastStamps.none_below.Goals as goal
+use Rattle.stamper.specs.Stamps.{none_below}
+use Rattle.stamper.proofs.last_stamps.LastStamps.none_below.Goals as goal
 
 pub returns : goal.returns
 returns c =

@@ -1,6 +1,6 @@
 // The stamp of each node's last event.
 ghost use Rattle.std.specs.Prelude.{◌≡◌, ◌<◌, ◌≤◌, length, map, nat_lt};
-ghost use Rattle.recorder.specs.Stamps.{no_stamps, none_below, stamp_at, with_last};
+ghost use Rattle.stamper.specs.Stamps.{no_stamps, none_below, stamp_at, with_last};
 ghost use Rattle.stamps.specs.Stamp.{stamp_of};
 
 use clocks::bank::NODES;

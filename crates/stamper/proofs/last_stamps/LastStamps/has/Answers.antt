@@ -1,7 +1,7 @@
 use Rattle.std.proofs.Common.{refl}
 use Rattle.stamps.specs.Stamp.{stamp_of}
-use Rattle.recorder.proofs.Held.{length_held}
-use Rattle.recorder.proofs.last_stamps.LastStamps.has.Goals as goal
+use Rattle.stamper.proofs.Held.{length_held}
+use Rattle.stamper.proofs.last_stamps.LastStamps.has.Goals as goal
 
 pub returns : goal.returns
 returns c =

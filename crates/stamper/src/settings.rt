@@ -16,7 +16,7 @@ pub struct Settings {
 }
 
 impl Settings {
-    ghost use Rattle.recorder.specs.Settings.{setting_numbers, settings_answer};
+    ghost use Rattle.stamper.specs.Settings.{setting_numbers, settings_answer};
 
     // Refused with 4 for no node or more than sixteen, or a lead above a day.
     pub fn new(nodes: u8, lead_millis: u32) -> Result<Settings, Refusal>

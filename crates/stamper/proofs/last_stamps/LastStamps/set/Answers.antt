@@ -1,7 +1,7 @@
 use Rattle.std.proofs.Common.{ap, length, ◌<◌, arith}
 use Rattle.stamps.specs.Stamp.{stamp_of}
-use Rattle.recorder.proofs.Held.{length_held, held_set}
-use Rattle.recorder.proofs.last_stamps.LastStamps.set.Goals as goal
+use Rattle.stamper.proofs.Held.{length_held, held_set}
+use Rattle.stamper.proofs.last_stamps.LastStamps.set.Goals as goal
 
 pub returns : goal.returns
 returns c =

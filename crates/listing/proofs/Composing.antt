@@ -8,7 +8,7 @@ use Rattle.trace.specs.Whole.{Ending}
 use Rattle.trace.specs.declared.records.Record.{Record}
 use Rattle.listing.specs.Lines.{Outcome, accepted_among, end_line, ending_lines, outcome_for, outcome_line, outcome_lines, refused_among}
 use Rattle.listing.specs.Outcomes.{AreCounts}
-use Rattle.listing.specs.SetUp.{SetUpNumbers, set_up_answer}
+use Rattle.trace_run.specs.SetUp.{SetUpNumbers, set_up_answer}
 use Rattle.listing.specs.Text.{listing_of, listing_text, outcomes_for, set_up_listing}
 use Rattle.listing.specs.declared.outcomes.Counts.{Counts}
 

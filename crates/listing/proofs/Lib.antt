@@ -1,6 +1,4 @@
 mod Composing
 mod Lining
-mod Machine
-mod Progress
 mod Running
 mod Splitting

@@ -11,7 +11,7 @@ use Rattle.replay.specs.Calls.{AnswerNumbers}
 use Rattle.replay.specs.declared.call.Call.{Call}
 use Rattle.trace.specs.Contents.{Content, content_of}
 use Rattle.trace.specs.declared.records.Record.{Record}
-use Rattle.listing.specs.Calls.{KeyForm, call_of, calls_of}
+use Rattle.trace_run.specs.Calls.{KeyForm, call_of, calls_of}
 use Rattle.listing.specs.Lines.{Outcome, accepted_among, outcome_line, outcome_lines, refused_among}
 use Rattle.listing.specs.Outcomes.{AddsOutcomes, after_one, answers_left, next_outcome, recorded}
 use Rattle.listing.specs.declared.outcomes.Counts.{Counts}

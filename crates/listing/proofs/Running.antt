@@ -1,28 +1,17 @@
 -- What comes of the records of a trace, by the answers of `replay`.
-use Rattle.std.proofs.Common.{◌≡◌, ℕ, suc, List, [], ◌∷◌, ◌++◌, length, map, Ok, Err, Result, refl, ap, ◌∙◌, append-nil}
+use Rattle.std.proofs.Common.{◌≡◌, ℕ, suc, List, [], ◌∷◌, length, Ok, Err, Result, refl, ap}
 use Rattle.std.specs.List.{cons_option}
 use Rattle.std.specs.Result.{result_ok}
 use Rattle.std.specs.declared.cmp.Ordering.{Ordering}
-use Rattle.clocks.specs.Bank.{Meaning}
-use Rattle.clocks.specs.Highs.{fresh_highs}
-use Rattle.clocks.specs.TraceClocks.{fresh_trace, trace_meaning}
-use Rattle.clocks.specs.declared.sample.Sample.{Sample}
-use Rattle.stamper.specs.Settings.{SettingNumbers}
-use Rattle.recorder.specs.State.{State, fresh_state}
-use Rattle.replay.specs.Calls.{AnswerNumbers, answer_numbers}
-use Rattle.replay.specs.Replay.{GainsAnswers, end_answer}
-use Rattle.replay.specs.declared.call.Answer.{Answer}
+use Rattle.recorder.specs.State.{State}
+use Rattle.replay.specs.Calls.{AnswerNumbers}
 use Rattle.replay.specs.declared.call.Call.{Call}
-use Rattle.replay.specs.declared.call.Question.{Question}
-use Rattle.replay.specs.declared.replay.Run.{Run}
-use Rattle.store.specs.Contents.{Contents}
 use Rattle.trace.specs.Contents.{Content}
-use Rattle.listing.specs.Calls.{KeyForm, call_of, calls_of}
+use Rattle.trace_run.specs.Calls.{KeyForm, call_of, calls_of}
 use Rattle.listing.specs.Lines.{Outcome}
-use Rattle.listing.specs.Machine.{trace_answers}
+use Rattle.trace_run.specs.Machine.{trace_answers}
 use Rattle.listing.specs.Outcomes.{answers_left, next_outcome, recorded}
 use Rattle.listing.specs.Text.{outcome, outcomes, state_behind}
-use Rattle.listing.proofs.Machine.{traced_from_fresh}
 
 module _ {K : Type 0} (form : KeyForm K) (order : K → K → Ordering) (backstep : ℕ) where
   -- the answers one after another give what the recorder gives record by record
@@ -42,16 +31,3 @@ module _ {K : Type 0} (form : KeyForm K) (order : K → K → Ordering) (backste
   pub as_many : (s : State (ℕ → ℕ) K) (calls : List (Call K)) → length (trace_answers order backstep s calls) ≡ length calls
   as_many s [] = refl
   as_many s (c ∷ calls) = ap suc (as_many (state_behind form order backstep s (Ok c)) calls)
-
--- what `replay` adds to a list of answers that has none
-pub answers_traced : {B K : Type 0} {beside : Sample → Result ℕ ℕ → B → B → Type 0} (order : K → K → Ordering) (meaning : B → Meaning)
-    → ((bank : B) → meaning bank ≡ trace_meaning (λ node. (meaning bank node).high) (meaning bank 0).backstep)
-    → (settings : SettingNumbers) (bank : B) (contents : Contents K) (backstep : ℕ) → meaning bank ≡ fresh_trace backstep
-    → (run : Run K) (before after : List (Answer K)) → run.questions.items ≡ [] → before ≡ []
-    → GainsAnswers order meaning beside (fresh_state settings bank contents) run before after
-    → map answer_numbers after ≡ trace_answers order backstep (fresh_state settings fresh_highs contents) run.calls.items
-answers_traced order meaning shaped settings bank contents backstep fresh run before after q b g =
-    let r = g.replayed in
-    let traced = traced_from_fresh order meaning shaped settings bank contents backstep fresh run.calls.items r.during r.told r.end r.calls in
-    let gained : after ≡ g.gained = g.list ∙ ap (λ (held : List (Answer _)). held ++ g.gained) b in
-    ap (map answer_numbers) gained ∙ r.all ∙ ap (λ (qs : List (Question _)). r.during ++ map (end_answer order meaning run.closes r.end) qs) q ∙ append-nil r.during ∙ traced

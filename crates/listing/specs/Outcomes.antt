@@ -4,7 +4,7 @@ use Rattle.lines.specs.Adding.{Adds}
 use Rattle.replay.specs.Calls.{AnswerNumbers}
 use Rattle.replay.specs.declared.call.Call.{Call}
 use Rattle.trace.specs.Contents.{Content}
-use Rattle.listing.specs.Calls.{KeyForm, call_of}
+use Rattle.trace_run.specs.Calls.{KeyForm, call_of}
 use Rattle.listing.specs.Lines.{Outcome, accepted_among, answered, outcome_lines, refused_among}
 use Rattle.listing.specs.declared.outcomes.Counts.{Counts}
 

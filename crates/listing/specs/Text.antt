@@ -15,12 +15,12 @@ use Rattle.replay.specs.Calls.{after_call, call_answer}
 use Rattle.replay.specs.declared.call.Call.{Call}
 use Rattle.trace.specs.Contents.{Content}
 use Rattle.trace.specs.Whole.{Ending, refused, whole_of}
-use Rattle.listing.specs.Calls.{KeyForm, call_of, points, tags}
+use Rattle.trace_run.specs.Calls.{KeyForm, call_of, points, tags}
 use Rattle.listing.specs.Lines.{Outcome, accepted_among, answered, end_line, ending_lines, outcome_for, outcome_lines, refused_among}
-use Rattle.listing.specs.Machine.{highs_after}
-use Rattle.listing.specs.SetUp.{SetUpNumbers, set_up_answer}
-use Rattle.listing.specs.declared.setup.Keys.{Keys}
-use Rattle.listing.specs.declared.setup.Keys.TheVariants.{Points, Tags}
+use Rattle.trace_run.specs.Machine.{highs_after}
+use Rattle.trace_run.specs.SetUp.{SetUpNumbers, set_up_answer}
+use Rattle.trace_run.specs.declared.setup.Keys.{Keys}
+use Rattle.trace_run.specs.declared.setup.Keys.TheVariants.{Points, Tags}
 
 -- for so many versions the program has places
 abbrev pub places : ℕ

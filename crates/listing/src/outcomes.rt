@@ -4,13 +4,11 @@ ghost use Rattle.lines.specs.Adding.{AddsInRoom};
 ghost use Rattle.refusals.specs.Refusals.{number_of, result_map, shown};
 ghost use Rattle.replay.specs.Calls.{answer_numbers};
 ghost use Rattle.trace.specs.Contents.{content_of};
-ghost use Rattle.listing.specs.Calls.{call_of, calls_of};
+ghost use Rattle.trace_run.specs.Calls.{call_of, calls_of};
 ghost use Rattle.listing.specs.Lines.{answer_pieces as answer_pieces_of, bad_line, end_line, ending_lines, outcome_for, outcome_line, record_pieces as record_pieces_of};
 ghost use Rattle.listing.specs.Outcomes.{AddsOutcomes, after_one, answers_left, next_outcome, recorded};
-ghost use Rattle.listing.specs.Reading.{ending_of};
+ghost use Rattle.trace_run.specs.Reading.{ending_of};
 
-use crate::calls::{TraceKey, call_for};
-use crate::reading::Bad;
 use arrayvec::ArrayVec;
 use lines::line::{Piece, Word};
 use lines::text::add_line;
@@ -19,6 +17,8 @@ use replay::call::Answer;
 use stamps::stamped::Stamped;
 use std::alloc::AllocError;
 use trace::records::Record;
+use trace_run::calls::{TraceKey, call_for};
+use trace_run::reading::Bad;
 
 // What a record is: a word; the node of an event, and the number of a message that was lost.
 fn record_pieces(record: &Record) -> ArrayVec<Piece, 2>

@@ -3,17 +3,17 @@ ghost use Rattle.std.specs.Prelude.{◌<◌, length, map};
 ghost use Rattle.lines.specs.Adding.{Adds, AddsInRoom};
 ghost use Rattle.trace.specs.Contents.{content_of};
 ghost use Rattle.trace.specs.Whole.{SplitsOneWay};
-ghost use Rattle.listing.specs.Reading.{ending_of};
+ghost use Rattle.trace_run.specs.Reading.{ending_of};
 ghost use Rattle.listing.specs.Text.{listing_of, listing_text, text_of};
 
 use crate::outcomes::{Counts, add_end, add_outcome};
-use crate::reading::{Bad, Records, read_records};
 use crate::run::add_run;
-use crate::setup::SetUp;
 use arrayvec::ArrayVec;
 use lines::line::{Piece, Word};
 use lines::text::add_line;
 use std::alloc::{AllocError, Global};
+use trace_run::reading::{Bad, Records, read_records};
+use trace_run::setup::SetUp;
 
 // The longest trace that is listed, in bytes.
 pub const LONGEST: usize = 65_536;

@@ -1,67 +1,41 @@
 // The run of a trace through a recorder.
-ghost use Rattle.std.specs.Prelude.{◌≡◌, IfOk, map};
+ghost use Rattle.std.specs.Prelude.{◌≡◌, map, pos};
 ghost use Rattle.clocks.specs.Highs.{fresh_highs};
 ghost use Rattle.clocks.specs.Settings.{backstep_of};
 ghost use Rattle.stamper.specs.Settings.{setting_numbers};
 ghost use Rattle.recorder.specs.State.{fresh_state};
-ghost use Rattle.replay.specs.Calls.{answer_numbers};
 ghost use Rattle.trace.specs.Contents.{content_of};
-ghost use Rattle.listing.specs.Calls.{calls_of};
-ghost use Rattle.listing.specs.Machine.{trace_answers};
 ghost use Rattle.listing.specs.Outcomes.{AddsOutcomes};
-ghost use Rattle.listing.specs.SetUp.{set_up_numbers};
+ghost use Rattle.trace_run.specs.SetUp.{set_up_numbers};
 ghost use Rattle.listing.specs.Text.{outcomes, outcomes_for};
 
-use crate::calls::{TraceKey, calls_for};
 use crate::outcomes::{Counts, add_outcomes};
-use crate::setup::{Keys, SetUp};
-use clocks::trace_clocks::TraceClocks;
 use keys::point::Point;
 use keys::tag::Tag;
 use recorder::empty_store::EmptyStore;
-use replay::call::Answer;
-use replay::replay::{Run, replay};
 use search_tree::{Node, SearchTree};
 use sorted_run::SortedRun;
 use std::alloc::{AllocError, Global};
 use store::listable::Listable;
 use store::version::Version;
 use trace::records::Record;
+use trace_run::answers::answers_for;
+use trace_run::calls::TraceKey;
+use trace_run::setup::{Keys, SetUp};
 
 // For so many versions there is room.
 const PLACES: usize = 1024;
 
-// What stands in a place that has no version yet.
-fn blank<K: TraceKey>() -> Version<K> {
+// What stands in a place that has no version yet: any key will do.
+fn blank<K>(key: K) -> Version<K>
+    ensures { result ≡ record { key = key; stamp = 0; node = 0; value = pos 0 } }
+{
     Version {
-        key: K::any(),
+        key,
         stamp: 0,
         node: 0,
         value: 0,
     }
-}
-
-// What a recorder with this store answers to the calls of the records behind a set-up.
-fn answers_for<K: TraceKey, S: Listable<K> + Drop>(
-    heap: Global,
-    setup: SetUp,
-    store: EmptyStore<K, S>,
-    records: &[Record],
-) -> Result<Vec<Answer<K>>, AllocError>
-    ensures { let start = fresh_state (setting_numbers setup.settings) fresh_highs store in
-        let calls = calls_of K.form (map content_of records.now) in
-        IfOk result (λ answers. map answer_numbers answers.items
-        ≡ trace_answers K.cmp (backstep_of setup.backstep) start calls) }
-{
-    let run = Run {
-        calls: calls_for(heap, records)?,
-        closes: false,
-        questions: Vec::new(heap),
-    };
-    let bank = TraceClocks::new(setup.backstep);
-    let mut answers = Vec::new(heap);
-    replay(setup.settings, bank, store, run, &mut answers)?;
-    Ok(answers)
 }
 
 // The lines of the records behind a set-up, and the counts of all records: through a recorder with this store.
@@ -93,13 +67,14 @@ pub(crate) fn add_run(
 {
     match setup.keys {
         Keys::Points => {
-            let mut places = [blank::<Point>(); PLACES];
+            let mut places = [blank(Point(0)); PLACES];
             let store = SortedRun::new(&mut places).unwrap();
             let store = EmptyStore::new(store).unwrap();
             add_run_in(text, heap, setup, store, records)
         }
         Keys::Tags => {
-            let mut nodes = [Node::new(blank::<Tag>()); PLACES];
+            let tag = Tag::try_from(b"-\0\0\0\0\0\0\0\0\0\0\0\0\0\0\0").unwrap();
+            let mut nodes = [Node::new(blank(tag)); PLACES];
             let store = SearchTree::new(&mut nodes).unwrap();
             let store = EmptyStore::new(store).unwrap();
             add_run_in(text, heap, setup, store, records)

@@ -2,7 +2,7 @@
 use Rattle.std.specs.Prelude.{Some, None, Option}
 use Rattle.refusals.specs.Refusals.{number_of}
 use Rattle.trace.specs.Whole.{Ending, complete, refused}
-use Rattle.listing.specs.declared.reading.Bad.{Bad}
+use Rattle.trace_run.specs.declared.reading.Bad.{Bad}
 
 abbrev pub ending_of : Option Bad → Ending
 ending_of None = complete

@@ -10,14 +10,14 @@ use trace::records::Record;
 
 // The kind of a trace's keys.
 #[derive(Clone, Copy, PartialEq, Eq, Debug)]
-pub(crate) enum Keys {
+pub enum Keys {
     Points,
     Tags,
 }
 
 // Refused with 4 above 1.
 impl TryFrom<u8> for Keys {
-    ghost use Rattle.listing.specs.SetUp.{keys_answer};
+    ghost use Rattle.trace_run.specs.SetUp.{keys_answer};
 
     type Error = Refusal;
 
@@ -33,15 +33,15 @@ impl TryFrom<u8> for Keys {
 }
 
 #[derive(Clone, Copy, Debug)]
-pub(crate) struct SetUp {
-    pub(crate) settings: Settings,
-    pub(crate) keys: Keys,
-    pub(crate) backstep: Backstep,
+pub struct SetUp {
+    pub settings: Settings,
+    pub keys: Keys,
+    pub backstep: Backstep,
 }
 
 // Refused with 5 where the record is none, then with 4 where a number is out of its range.
 impl TryFrom<&Record<'_>> for SetUp {
-    ghost use Rattle.listing.specs.SetUp.{set_up_answer, set_up_numbers};
+    ghost use Rattle.trace_run.specs.SetUp.{set_up_answer, set_up_numbers};
 
     type Error = Refusal;
 

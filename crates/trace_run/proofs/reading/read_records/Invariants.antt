@@ -1,6 +1,6 @@
 use Rattle.std.proofs.Common.{◌-◌, length}
-use Rattle.listing.proofs.Progress.{AreRead}
-use Rattle.listing.proofs.reading.read_records.Given as goal
+use Rattle.trace_run.proofs.Progress.{AreRead}
+use Rattle.trace_run.proofs.reading.read_records.Given as goal
 
 abbrev pub invariant-loop-entry : goal.invariant-loop-entry
 invariant-loop-entry l = AreRead l.trace l.reader l.list.items

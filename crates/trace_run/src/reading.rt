@@ -2,7 +2,7 @@
 ghost use Rattle.std.specs.Prelude.{◌≡◌, IfOk, map};
 ghost use Rattle.trace.specs.Contents.{content_of};
 ghost use Rattle.trace.specs.Whole.{whole_of};
-ghost use Rattle.listing.specs.Reading.{ending_of};
+ghost use Rattle.trace_run.specs.Reading.{ending_of};
 
 use refusals::refusal::Refusal;
 use std::alloc::{AllocError, Global};
@@ -11,19 +11,19 @@ use trace::records::Record;
 
 // Where no more is read, and why.
 #[derive(Clone, Copy, Debug)]
-pub(crate) struct Bad {
-    pub(crate) refusal: Refusal,
-    pub(crate) offset: usize,
+pub struct Bad {
+    pub refusal: Refusal,
+    pub offset: usize,
 }
 
 // The records of a trace, and what ends them if the trace does not.
 #[derive(Drop)]
-pub(crate) struct Records<'a> {
-    pub(crate) list: Vec<Record<'a>>,
-    pub(crate) bad: Option<Bad>,
+pub struct Records<'a> {
+    pub list: Vec<Record<'a>>,
+    pub bad: Option<Bad>,
 }
 
-pub(crate) fn read_records(heap: Global, trace: &[u8]) -> Result<Records<'_>, AllocError>
+pub fn read_records(heap: Global, trace: &[u8]) -> Result<Records<'_>, AllocError>
     ensures records { IfOk result (λ r. map content_of r.list.items ≡ (whole_of trace.now).records) }
     ensures ending { IfOk result (λ r. ending_of r.bad ≡ (whole_of trace.now).ending) }
 {

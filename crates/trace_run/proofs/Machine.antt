@@ -1,5 +1,5 @@
 -- Trace clocks leave a recorder no choice: its answers to any calls are those of `trace_answers`.
-use Rattle.std.proofs.Common.{◌≡◌, ℕ, inl, inr, List, [], ◌∷◌, ◌++◌, Ok, Err, Result, refl, ap, ◌∙◌, subst, append_assoc, arith}
+use Rattle.std.proofs.Common.{◌≡◌, ℕ, inl, inr, List, [], ◌∷◌, ◌++◌, map, Ok, Err, Result, refl, ap, ◌∙◌, subst, append_assoc, arith}
 use Rattle.std.specs.declared.cmp.Ordering.{Ordering}
 use Rattle.std.proofs.lemmas.Bool.{cases_eq}
 use Rattle.std.proofs.lemmas.Bool.Decides.{nat_tests}
@@ -13,13 +13,17 @@ use Rattle.recorder.specs.Answers.{clock_answer}
 use Rattle.stamper.specs.Readings.{TookReading}
 use Rattle.stamper.specs.Settings.{SettingNumbers}
 use Rattle.recorder.specs.State.{State, fresh_state}
-use Rattle.replay.specs.Calls.{AnswerNumbers, after_call, call_answer}
+use Rattle.replay.specs.Calls.{AnswerNumbers, after_call, answer_numbers, call_answer}
+use Rattle.replay.specs.Replay.{GainsAnswers, end_answer}
 use Rattle.replay.specs.Runs.{IsRun, IsCalled, NoCall, OneMore, TookFor}
+use Rattle.replay.specs.declared.call.Answer.{Answer}
 use Rattle.replay.specs.declared.call.Call.{Call}
 use Rattle.replay.specs.declared.call.Call.TheVariants as call
+use Rattle.replay.specs.declared.call.Question.{Question}
+use Rattle.replay.specs.declared.replay.Run.{Run}
 use Rattle.stamps.specs.Rules.{StampedNumbers}
 use Rattle.store.specs.Contents.{Contents}
-use Rattle.listing.specs.Machine.{highs_after, trace_answers}
+use Rattle.trace_run.specs.Machine.{highs_after, trace_answers}
 
 -- the same recorder, its bank told by the highest reading of each node
 abbrev pub by_highs : {B K : Type 0} → (B → ℕ → ℕ) → State B K → State (ℕ → ℕ) K
@@ -137,3 +141,16 @@ traced_from_fresh order meaning shaped settings bank contents backstep fresh cal
     subst (λ m. answers ≡ trace_answers order (m 0).backstep (fresh_state settings (λ node. (m node).high) contents) calls) fresh
     (traced order meaning (λ bank node. (meaning bank node).high) (λ bank. (meaning bank 0).backstep) shaped
     (fresh_state settings bank contents) calls answers told end run)
+
+-- what `replay` adds to a list of answers that has none
+pub answers_traced : {B K : Type 0} {beside : Sample → Result ℕ ℕ → B → B → Type 0} (order : K → K → Ordering) (meaning : B → Meaning)
+    → ((bank : B) → meaning bank ≡ trace_meaning (λ node. (meaning bank node).high) (meaning bank 0).backstep)
+    → (settings : SettingNumbers) (bank : B) (contents : Contents K) (backstep : ℕ) → meaning bank ≡ fresh_trace backstep
+    → (run : Run K) (before after : List (Answer K)) → run.questions.items ≡ [] → before ≡ []
+    → GainsAnswers order meaning beside (fresh_state settings bank contents) run before after
+    → map answer_numbers after ≡ trace_answers order backstep (fresh_state settings fresh_highs contents) run.calls.items
+answers_traced order meaning shaped settings bank contents backstep fresh run before after q b g =
+    let r = g.replayed in
+    let traced = traced_from_fresh order meaning shaped settings bank contents backstep fresh run.calls.items r.during r.told r.end r.calls in
+    let gained : after ≡ g.gained = g.list ∙ ap (λ (held : List (Answer _)). held ++ g.gained) b in
+    ap (map answer_numbers) gained ∙ r.all ∙ ap (λ (qs : List (Question _)). r.during ++ map (end_answer order meaning run.closes r.end) qs) q ∙ append-nil r.during ∙ traced

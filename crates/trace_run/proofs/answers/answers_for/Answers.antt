@@ -1,6 +1,6 @@
 use Rattle.std.proofs.Common.{refl}
-use Rattle.listing.proofs.Running.{answers_traced}
-use Rattle.listing.proofs.run.answers_for.Goals as goal
+use Rattle.trace_run.proofs.Machine.{answers_traced}
+use Rattle.trace_run.proofs.answers.answers_for.Goals as goal
 
 pub returns : goal.returns
 returns g c =

@@ -2,7 +2,7 @@
 ghost use Rattle.std.specs.Prelude.{◌≡◌, IfOk, map};
 ghost use Rattle.refusals.specs.Refusals.{shown};
 ghost use Rattle.trace.specs.Contents.{content_of};
-ghost use Rattle.listing.specs.Calls.{KeyForm, call_of, calls_of, key_of};
+ghost use Rattle.trace_run.specs.Calls.{KeyForm, call_of, calls_of, key_of};
 
 use clocks::reading::Raw;
 use clocks::sample::Sample;
@@ -15,19 +15,16 @@ use std::alloc::{AllocError, Global};
 use trace::records::{KeyBytes, Record};
 
 // A kind of keys that a trace may have.
-pub(crate) trait TraceKey: KeyKind {
+pub trait TraceKey: KeyKind {
     ghost form: { KeyForm Self };
 
     // The key of these bytes: refused with 6 where they are of the other kind, then with 3 where they are no tag.
     fn from_bytes(bytes: KeyBytes<'_>) -> Result<Self, Refusal>
         ensures { shown result ≡ key_of form bytes.entry };
-
-    // Some key, for a place that has no version yet.
-    fn any() -> Self;
 }
 
 impl TraceKey for Point {
-    ghost use Rattle.listing.specs.Calls.{points};
+    ghost use Rattle.trace_run.specs.Calls.{points};
 
     ghost form = { points };
 
@@ -37,14 +34,10 @@ impl TraceKey for Point {
             KeyBytes::Tag(_) => Err(Refusal::OtherKeyKind),
         }
     }
-
-    fn any() -> Point {
-        Point(0)
-    }
 }
 
 impl TraceKey for Tag {
-    ghost use Rattle.listing.specs.Calls.{tags};
+    ghost use Rattle.trace_run.specs.Calls.{tags};
 
     ghost form = { tags };
 
@@ -55,17 +48,13 @@ impl TraceKey for Tag {
             KeyBytes::Tag(bytes) => Tag::try_from(bytes),
         }
     }
-
-    fn any() -> Tag {
-        Tag::try_from(b"-\0\0\0\0\0\0\0\0\0\0\0\0\0\0\0").unwrap()
-    }
 }
 
 // The call of a record, or why it is refused before the recorder sees it.
-pub(crate) fn call_for<K: TraceKey>(record: &Record) -> Result<Call<K>, Refusal>
-    ensures { shown result ≡ call_of K.form (content_of «record».now) }
+pub fn call_for<K: TraceKey>(entry: &Record) -> Result<Call<K>, Refusal>
+    ensures { shown result ≡ call_of K.form (content_of entry.now) }
 {
-    match *record {
+    match *entry {
         Record::SetUp { .. } => Err(Refusal::MisplacedSetUp),
         Record::Note { node, raw } => Ok(Call::Note {
             sample: sample_of(node, raw),
@@ -112,15 +101,15 @@ fn sample_of(node: u8, raw: u64) -> Sample
 }
 
 // The calls of the records that are not refused before, in order.
-pub(crate) fn calls_for<K: TraceKey>(
+pub fn calls_for<K: TraceKey>(
     heap: Global,
     records: &[Record],
 ) -> Result<Vec<Call<K>>, AllocError>
     ensures { IfOk result (λ calls. calls.items ≡ calls_of K.form (map content_of records.now)) }
 {
     let mut calls = Vec::new(heap);
-    for record in records {
-        if let Ok(call) = call_for(record) {
+    for entry in records {
+        if let Ok(call) = call_for(entry) {
             calls.push(call)?;
         }
     }

@@ -1,8 +1,8 @@
 use Rattle.std.proofs.Common.{◌≡◌, Ok, Some, rules}
 use Rattle.trace.specs.Format.{entry_of}
 use Rattle.trace.specs.Readers.{next_finding}
-use Rattle.listing.proofs.Progress.{read_more}
-use Rattle.listing.proofs.reading.read_records.Goals as goal
+use Rattle.trace_run.proofs.Progress.{read_more}
+use Rattle.trace_run.proofs.reading.read_records.Goals as goal
 
 pub loop-entry-preserved : goal.loop-entry-preserved
 loop-entry-preserved c =

@@ -4,9 +4,9 @@ use Rattle.clocks.specs.Limits.{day_millis}
 use Rattle.stamper.specs.Settings.{SettingNumbers, most_nodes, setting_numbers}
 use Rattle.trace.specs.Contents.{Content, set_up, note, send, receipt, loss, put_point, put_tag, read_point, read_tag}
 use Rattle.clocks.specs.Settings.{backstep_of}
-use Rattle.listing.specs.declared.setup.Keys.{Keys}
-use Rattle.listing.specs.declared.setup.SetUp.{SetUp}
-use Rattle.listing.specs.declared.setup.Keys.TheVariants.{Points, Tags}
+use Rattle.trace_run.specs.declared.setup.Keys.{Keys}
+use Rattle.trace_run.specs.declared.setup.SetUp.{SetUp}
+use Rattle.trace_run.specs.declared.setup.Keys.TheVariants.{Points, Tags}
 
 -- what a set-up sets: the recorder, the kind of its keys, and how far a clock may step back
 pub record SetUpNumbers : Type 0 where

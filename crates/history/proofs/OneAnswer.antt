@@ -1,18 +1,15 @@
 -- Puts have exactly one answer and one page at each stamp, since a store that they are put into, one after another, has them in order.
-use Rattle.std.proofs.Common.{◌≡◌, ℕ, suc, ◌<◌, ◌⊎◌, ◌↔◌, inl, inr, false, List, [], ◌∷◌, Some, None, Option, refl, sym, ◌∙◌, subst, arith}
+use Rattle.std.proofs.Common.{◌≡◌, ℕ, suc, ◌<◌, ◌⊎◌, ◌↔◌, inl, inr, List, [], ◌∷◌, Some, None, Option, refl, sym, ◌∙◌, subst, arith}
 use Rattle.std.specs.Cmp.{IsTotalOrder}
 use Rattle.std.specs.declared.cmp.Ordering.{Ordering}
 use Rattle.std.specs.List.{cons_option, fold}
 use Rattle.std.specs.List.Sorted.{IsStrictlySortedBy}
-use Rattle.std.specs.Ordering.{is_eq}
-use Rattle.std.proofs.lemmas.Bool.{or_from}
-use Rattle.std.proofs.lemmas.Bool.Decides.{nat_tests}
 use Rattle.keys.specs.Order.{IsKeyOrder}
 use Rattle.store.specs.Newest.{IsIn, IsOnlyAnswer, newest}
 use Rattle.store.specs.Page.{IsOnlyPage, page}
-use Rattle.store.specs.Versions.{IsSorted, has_id, id_cmp, with_version}
+use Rattle.store.specs.Versions.{IsSorted, with_version}
 use Rattle.store.specs.declared.version.Version.{Version}
-use Rattle.store.proofs.Adding.{sorted_with_version}
+use Rattle.store.proofs.Adding.{in_with_version, no_id, sorted_with_version}
 use Rattle.store.proofs.InWords.{only_answer}
 use Rattle.store.proofs.PageInWords.{only_page}
 use Rattle.history.specs.Events.{Event, event_at, puts, version_of}
@@ -39,13 +36,9 @@ module _ {K : Type 0} where
     abbrev pub recorded : List (Version K) → List (Version K)
     recorded vs = recorded_onto [] vs
 
-    with_same : (u v : Version K) (ws : List (Version K)) → IsIn u (v ∷ ws) ↔ IsIn u (with_version order v ws)
-    with_same u v [] = (λ is_in. is_in, λ is_in. is_in)
-    with_same u v (w ∷ ws) = let more = with_same u v ws in (λ is_in. grind arith, λ is_in. grind arith)
-
     onto_same : (u : Version K) (vs ws : List (Version K)) → (IsIn u vs ⊎ IsIn u ws) ↔ IsIn u (recorded_onto ws vs)
     onto_same u [] ws = (λ is_in. grind arith, λ is_in. inr is_in)
-    onto_same u (v ∷ vs) ws = let more = onto_same u vs (with_version order v ws) in let first = with_same u v ws in (λ is_in. grind arith, λ is_in. grind arith)
+    onto_same u (v ∷ vs) ws = let more = onto_same u vs (with_version order v ws) in let first = in_with_version order u v ws in (λ is_in. grind arith, λ is_in. grind arith)
 
     -- what is recorded is what was put in
     pub recorded_there : (v : Version K) (vs : List (Version K)) → IsIn v vs → IsIn v (recorded vs)
@@ -57,20 +50,12 @@ module _ {K : Type 0} where
     pub recorded_same : (stamp : ℕ) (vs : List (Version K)) → AreSameUpTo stamp (recorded vs) vs
     recorded_same stamp vs = record { there = λ v below. recorded_back v vs; back = λ v below. recorded_there v vs }
 
-    -- a version that is later than all of its node has a new key, stamp and node
-    other_id : (v w : Version K) → (w.node ≡ v.node → w.stamp < v.stamp) → is_eq (id_cmp order v w) ≡ false
-    other_id v w earlier = grind (arith, nat_tests)
-
-    no_id : (v : Version K) (ws : List (Version K)) → ((w : Version K) → IsIn w ws → w.node ≡ v.node → w.stamp < v.stamp) → has_id order v ws ≡ false
-    no_id v [] earlier = refl
-    no_id v (w ∷ ws) earlier = or_from _ _ (other_id v w (earlier w (inl refl))) (no_id v ws (λ u is_in. earlier u (inr is_in)))
-
     module _ (total : IsTotalOrder order) where
       onto_sorted : (vs ws : List (Version K)) → IsSorted order ws → AreRising vs → ((w : Version K) → IsIn w ws → IsEarlier w vs) → IsSorted order (recorded_onto ws vs)
       onto_sorted [] ws sorted rising before = sorted
       onto_sorted (v ∷ vs) ws sorted rising before =
-          let new = no_id v ws (λ w is_in same. before w is_in v (inl refl) (sym same)) in
-          onto_sorted vs (with_version order v ws) (sorted_with_version order total v ws sorted new) rising.1 (λ w is_in. elim ((with_same w v ws).1 is_in) [
+          let new = no_id order v ws (λ w is_in same. before w is_in v (inl refl) (sym same)) in
+          onto_sorted vs (with_version order v ws) (sorted_with_version order total v ws sorted new) rising.1 (λ w is_in. elim ((in_with_version order w v ws).1 is_in) [
             | inl here ↦ subst (λ u. IsEarlier u vs) (sym here) rising.0
             | inr there ↦ λ u behind. before w there u (inr behind)
           ])

@@ -47,8 +47,3 @@ pub onward : {Z Y F : Type 0} {was mid after : String Z} {all ys : List ℕ} (q 
 onward {was = was} {mid = mid} {after = after} {all = all} {ys = ys} q g b =
     let kept = starts_with_trans (string_bytes after) (string_bytes mid) (string_bytes was) b.kept g.kept in
     grind (arith, common_steps, kept)
-
-pub onward_in_room : {Z Y F : Type 0} {was mid after : String Z} {all ys : List ℕ} (q : Result Y F) → OnTheWay was mid all ys → AddsInRoom mid after ys q → AddsInRoom was after all q
-onward_in_room {was = was} {mid = mid} {after = after} {all = all} {ys = ys} q g b =
-    let adds = onward q g b.adds in
-    record { adds = adds; room = grind (arith, common_steps) }

@@ -1,13 +1,13 @@
 -- What is known between two records of a trace that is being read.
-use Rattle.std.proofs.Common.{◌≡◌, ℕ, ◌+◌, ◌≤◌, List, ◌++◌, ◌∷◌, length, map, Some, None, Ok, Err, [], ap, ◌∙◌, sym, append_assoc, append-nil, arith}
+use Rattle.std.proofs.Common.{◌≡◌, ℕ, ◌+◌, ◌≤◌, List, ◌++◌, ◌∷◌, length, map, Some, Ok, [], ap, ◌∙◌, sym, append_assoc, arith}
 use Rattle.std.proofs.lemmas.List.{map-append}
 use Rattle.trace.specs.Contents.{content_of, size_of}
 use Rattle.trace.specs.Format.{place_behind}
 use Rattle.trace.specs.Readers.{reader_trace, reader_offset, next_finding}
 use Rattle.trace.specs.declared.reader.Reader.{Reader}
 use Rattle.trace.specs.declared.records.Record.{Record}
-use Rattle.trace.specs.Whole.{Whole, complete, refused, whole_of}
-use Rattle.trace.proofs.Whole.{rest, rest_record, rest_end, rest_refused}
+use Rattle.trace.specs.Whole.{Whole, whole_of}
+use Rattle.trace.proofs.Whole.{rest, rest_record}
 
 -- these records of bs were read, and the reader stands behind them
 pub record AreRead (bs : List ℕ) (reader : Reader) (records : List Record) : Type 0 where
@@ -32,18 +32,3 @@ module _ {bs : List ℕ} {reader : Reader} {records : List Record} (g : AreRead 
         ending = rw behind (ap (λ (w : Whole). w.ending) (sym here) ∙ g.ending);
         same = t ∙ g.same;
       }
-
-  -- none more: the trace ends, or what follows is refused
-  pub read_all : next_finding reader ≡ Ok None → (map content_of records ≡ (whole_of bs).records) × (complete ≡ (whole_of bs).ending)
-  read_all e =
-      let here = rest_end bs (reader_offset reader) (rw (← g.same) e) in (
-        sym (append-nil (map content_of records)) ∙ ap (λ (w : Whole). map content_of records ++ w.records) (sym here) ∙ g.list,
-        ap (λ (w : Whole). w.ending) (sym here) ∙ g.ending,
-      )
-
-  pub read_bad : (k : ℕ) → next_finding reader ≡ Err k → (map content_of records ≡ (whole_of bs).records) × (refused k (reader_offset reader) ≡ (whole_of bs).ending)
-  read_bad k e =
-      let here = rest_refused bs (reader_offset reader) k (rw (← g.same) e) in (
-        sym (append-nil (map content_of records)) ∙ ap (λ (w : Whole). map content_of records ++ w.records) (sym here) ∙ g.list,
-        ap (λ (w : Whole). w.ending) (sym here) ∙ g.ending,
-      )

@@ -1,7 +1,7 @@
 -- What the law says of the answers alone.
-use Rattle.std.proofs.Common.{◌≡◌, ℕ, zero, suc, ◌+◌, ◌-◌, ◌<◌, ◌≤◌, ◌⊎◌, inl, inr, Bool, ℤ, true, false, List, [], ◌∷◌, ◌++◌, length, map, take, Vec, Global, refl, sym, ap, ◌∙◌, subst, arith}
+use Rattle.std.proofs.Common.{◌≡◌, ℕ, ℤ, ◌+◌, ◌-◌, ◌≤◌, ◌⊎◌, inl, inr, Bool, true, false, arith}
+use Rattle.std.proofs.Common.{List, [], ◌∷◌, ◌++◌, length, map, take, Vec, Global, refl, ap, ◌∙◌, subst}
 use Rattle.std.specs.Prelude.{Some, None, Ok, Err, Option, Result, if◌then◌else◌}
-use Rattle.std.specs.Cmp.{IsTotalOrder}
 use Rattle.std.specs.declared.cmp.Ordering.{Ordering}
 use Rattle.std.specs.List.{cons_option, filter_map, zip}
 use Rattle.std.specs.Option.{option_to_list}
@@ -18,7 +18,7 @@ use Rattle.store.specs.Contents.{Contents}
 use Rattle.store.specs.Newest.{IsIn}
 use Rattle.store.specs.declared.version.Version.{Version}
 use Rattle.history.specs.Events.{Event, Note, Put, Receipt, Send, What, event_at, no_event, puts, version_of}
-use Rattle.history.specs.History.{Closed, Entered, Entry, Read, event_of, events_of}
+use Rattle.history.specs.History.{Closed, Entered, Entry, event_of, events_of}
 use Rattle.history.specs.Law.{Cuts, Drift, Reads}
 use Rattle.history.proofs.Entries.{events_of-append}
 use Rattle.history.proofs.Lists.{each_push, in_append, placed}
@@ -28,8 +28,10 @@ use Rattle.recorder.specs.Answers.{at_reading, clock_answer, note_answer, put_an
 use Rattle.recorder.specs.Changes.{TookReading}
 use Rattle.recorder.specs.Stamps.{stamp_at}
 use Rattle.recorder.specs.State.{State, is_settled}
-use Rattle.replay.specs.Calls.{AnswerNumbers, CutAnswer, EventAnswer, LossAnswer, ReadAnswer, UnderWayAnswer, call_answer, question_answer}
-use Rattle.replay.specs.InWords.{AnswersKeepLaw, IsKept, IsNear, IsRightAmong, OrdersAreAlike, RunsKeepBeside, asked_of, version_by, versions_by}
+use Rattle.replay.specs.Calls.{AnswerNumbers, CutAnswer, EventAnswer, LossAnswer, ReadAnswer, UnderWayAnswer}
+use Rattle.replay.specs.Calls.{call_answer, question_answer}
+use Rattle.replay.specs.InWords.{AnswersKeepLaw, IsKept, IsNear, IsRightAmong, OrdersAreAlike, RunsKeepBeside}
+use Rattle.replay.specs.InWords.{asked_of, version_by, versions_by}
 use Rattle.replay.specs.Replay.{IsReplayed, end_answer, end_entries, whole_history}
 use Rattle.replay.specs.Runs.{IsRun, NoCall, OneMore, TookFor, call_entry, event_entry, question_entry}
 use Rattle.replay.specs.declared.call.Call.{Call}
@@ -146,11 +148,14 @@ module _ {B K : Type 0} (order : K → K → Ordering) (meaning : B → Meaning)
 
   -- one call
   module _ (s : State B K) (told : List (Entry K)) where
+    abbrev IsDrift : Sample → StampedNumbers → Type 0
+    IsDrift sample event = event.drift ≡ event.stamp.time - result_unwrap_or (clock_answer meaning s sample) 0
+
     abbrev entered : Sample → What K → Result StampedNumbers ℕ → List (Entry K)
     entered sample what answer = told ++ option_to_list (event_entry order meaning s sample what answer)
 
     event_tells : (sample : Sample) (what : What K) (answer : Result StampedNumbers ℕ)
-        → ((event : StampedNumbers) → answer ≡ Ok event → event.drift ≡ event.stamp.time - result_unwrap_or (clock_answer meaning s sample) 0)
+        → ((event : StampedNumbers) → answer ≡ Ok event → IsDrift sample event)
         → HasEvent (entered sample what answer) sample (EventAnswer answer)
     event_tells sample what (Ok event) drift = λ other is.
         let same : event ≡ other = cc is in
@@ -158,13 +163,14 @@ module _ {B K : Type 0} (order : K → K → Ordering) (meaning : B → Meaning)
     event_tells sample what (Err refusal) drift = λ other is. absurd (cc is)
 
     own_drift : (sample : Sample) (event : StampedNumbers)
-        → at_reading (λ reading. event_answer (own_stamp (stamp_at s.last sample.node) reading) reading) (clock_answer meaning s sample) ≡ Ok event
-        → event.drift ≡ event.stamp.time - result_unwrap_or (clock_answer meaning s sample) 0
+        → let rule : ℕ → Timestamp = own_stamp (stamp_at s.last sample.node) in
+        at_reading (λ reading. event_answer (rule reading) reading) (clock_answer meaning s sample) ≡ Ok event
+        → IsDrift sample event
     own_drift sample = drift_by (own_stamp (stamp_at s.last sample.node)) (clock_answer meaning s sample)
 
     received : (sample : Sample) (number : ℕ) (found : Option MessageNumbers) (event : StampedNumbers)
         → message_of number s.messages ≡ found → receipt_answer meaning s sample number ≡ Ok event
-        → event.drift ≡ event.stamp.time - result_unwrap_or (clock_answer meaning s sample) 0
+        → IsDrift sample event
     received sample number None event finds is = absurd (grind (arith, nat_tests, is, finds))
     received sample number (Some m) event finds is =
         drift_by (receipt_stamp (stamp_at s.last sample.node) m.stamp) (clock_answer meaning s sample) event
@@ -217,12 +223,14 @@ module _ {B K : Type 0} (order : K → K → Ordering) (meaning : B → Meaning)
         let so_far = run_told run in
         let entry = option_to_list (call_entry order meaning s c) in
         let pairs = zip_joined calls answers (c ∷ []) (a ∷ []) so_far.many in
+        let by = λ (p : Call K × AnswerNumbers K). version_by p.0 p.1 in
+        let later = λ (e : Entry K) (is_in : IsIn e told). in_append e told entry (inl is_in) in
         record {
           many = omega (arith, so_far.many, length-append answers (a ∷ []), length-append calls (c ∷ []));
-          versions = rw (pairs, filter_map-append (λ (p : Call K × AnswerNumbers K). version_by p.0 p.1) (zip calls answers) ((c, a) ∷ []),
-              events_of-append told entry, puts-append (events_of told) (events_of entry), so_far.versions, call_puts s told c, ← is.answer) refl;
+          versions = rw (pairs, filter_map-append by (zip calls answers) ((c, a) ∷ []), events_of-append told entry,
+              puts-append (events_of told) (events_of entry), so_far.versions, call_puts s told c, ← is.answer) refl;
           each = λ p is_in. each_push (λ (p : Call K × AnswerNumbers K). Tells (told ++ entry) p.0 p.1) (c, a) (zip calls answers)
-              (λ p is_in. tells_more told (told ++ entry) (λ e is_in. in_append e told entry (inl is_in)) p.0 p.1 (so_far.each p is_in))
+              (λ p is_in. tells_more told (told ++ entry) later p.0 p.1 (so_far.each p is_in))
               (rw is.answer (call_tells s told c)) p (subst (IsIn p) pairs is_in);
         }
 
@@ -257,7 +265,8 @@ module _ {B K : Type 0} (order : K → K → Ordering) (meaning : B → Meaning)
           let none = no_versions end_settled r.end.contents r.end.messages run.questions.items in
           rw (events_of-append r.told (end_entries order meaning run.closes r.end run.questions.items), end_no_events,
           append-nil (events_of r.told), pairs,
-          filter_map-append by (zip run.calls.items r.during) (zip (map call.Ask run.questions.items) (map answer run.questions.items)),
+          filter_map-append by (zip run.calls.items r.during)
+          (zip (map call.Ask run.questions.items) (map answer run.questions.items)),
           none, append-nil (filter_map by (zip run.calls.items r.during)))
           calls_told.versions
 
@@ -265,8 +274,8 @@ module _ {B K : Type 0} (order : K → K → Ordering) (meaning : B → Meaning)
       tells p is_in = elim (in_one_of p _ _ (subst (IsIn p) pairs is_in)) [
         | inl during ↦ tells_more r.told whole (λ e told. in_append e r.told _ (inl told)) p.0 p.1 (calls_told.each p during)
         | inr after ↦
-            tells_more answered whole
-            (λ e told. in_append e r.told _ (inr (in_append e (if run.closes then Closed ∷ [] else []) answered (inr told)))) p.0 p.1
+            let close : List (Entry K) = (if run.closes then Closed ∷ [] else []) in
+            tells_more answered whole (λ e told. in_append e r.told _ (inr (in_append e close answered (inr told)))) p.0 p.1
             (asked_tells end_settled r.end.contents r.end.messages run.questions.items p after)
       ]
 
@@ -286,14 +295,16 @@ module _ {B K : Type 0} (order : K → K → Ordering) (meaning : B → Meaning)
       near sample (CutAnswer answer rows) has = tt
       near sample (UnderWayAnswer answer rows) has = tt
 
-      right : (q : Question K) (a : AnswerNumbers K) → Tells whole (call.Ask q) a → IsRightAmong order meaning (puts (events_of whole)) q a
+      right : (q : Question K) (a : AnswerNumbers K) → Tells whole (call.Ask q) a
+          → IsRightAmong order meaning (puts (events_of whole)) q a
       right (question.Read key stamp) (ReadAnswer (Ok found)) told = r.lawful Reads key stamp found (told _ refl)
       right (question.Read key stamp) (ReadAnswer (Err refusal)) told = tt
       right (question.Read key stamp) (EventAnswer answer) told = tt
       right (question.Read key stamp) (LossAnswer answer) told = tt
       right (question.Read key stamp) (CutAnswer answer rows) told = tt
       right (question.Read key stamp) (UnderWayAnswer answer rows) told = tt
-      right (question.Cut stamp given) (CutAnswer (Ok count) rows) told = r.lawful Cuts stamp count (take count rows) (told _ refl)
+      right (question.Cut stamp given) (CutAnswer (Ok count) rows) told =
+          r.lawful Cuts stamp count (take count rows) (told _ refl)
       right (question.Cut stamp given) (CutAnswer (Err refusal) rows) told = tt
       right (question.Cut stamp given) (EventAnswer answer) told = tt
       right (question.Cut stamp given) (LossAnswer answer) told = tt
@@ -325,7 +336,8 @@ module _ {B K : Type 0} (order : K → K → Ordering) (meaning : B → Meaning)
 
     -- what a take keeps, an event keeps, and so does a call
     module _ (number : B → ℕ)
-        (keeps : (sample : Sample) (reading : Result ℕ ℕ) (old new : B) → beside sample reading old new → number new ≡ number old) where
+        (keeps : (sample : Sample) (reading : Result ℕ ℕ) (old new : B)
+        → beside sample reading old new → number new ≡ number old) where
       event_keeps : (sample : Sample) (answer : Result StampedNumbers ℕ) (old new : B)
           → TookReading meaning beside sample answer old new → number new ≡ number old
       event_keeps sample (Ok event) old new takes = keeps sample _ old new takes.1

@@ -60,7 +60,8 @@ module _ {B K : Type 0} (order : K → K → Ordering) (meaning : B → Meaning)
     -- Each call and each question of a run has its answer, and of each the law holds, among all versions that the run put: those
     -- that were put later, too.
     abbrev pub AnswersKeepLaw : Type 0
-    AnswersKeepLaw = (start : State B K) (run : Run K) (answers : List (AnswerNumbers K)) → IsReplayed order meaning beside start run answers
+    AnswersKeepLaw = (start : State B K) (run : Run K) (answers : List (AnswerNumbers K))
+        → IsReplayed order meaning beside start run answers
         → (length answers ≡ length (asked_of run))
         × ((c : Call K) (a : AnswerNumbers K) → IsIn (c, a) (zip (asked_of run) answers)
         → IsKept start (versions_by (asked_of run) answers) c a)
@@ -69,11 +70,12 @@ module _ {B K : Type 0} (order : K → K → Ordering) (meaning : B → Meaning)
     abbrev pub RunsKeepBeside : Type 0
     RunsKeepBeside = (number : B → ℕ)
         → ((sample : Sample) (reading : Result ℕ ℕ) (old new : B) → beside sample reading old new → number new ≡ number old)
-        → (start : State B K) (run : Run K) (answers : List (AnswerNumbers K)) (r : IsReplayed order meaning beside start run answers)
+        → (start : State B K) (run : Run K) (answers : List (AnswerNumbers K))
+        → (r : IsReplayed order meaning beside start run answers)
         → number r.end.bank ≡ number start.bank
 
-    -- Two runs of the same events in two orders have the same stamps, and the same is right to answer in both. Each node's own events
-    -- keep their order, and each receipt is of the same send.
+    -- Two runs of the same events in two orders have the same stamps, and the same is right to answer in both. Each node's own
+    -- events keep their order, and each receipt is of the same send.
     abbrev pub OrdersAreAlike : Type 0
     OrdersAreAlike = (start other_start : State B K) (run other_run : Run K) (answers other_answers : List (AnswerNumbers K))
         → (r : IsReplayed order meaning beside start run answers)

@@ -30,7 +30,7 @@ use Rattle.recorder.specs.Stamps.{stamp_at}
 use Rattle.recorder.specs.State.{State, is_settled}
 use Rattle.replay.specs.Calls.{AnswerNumbers, CutAnswer, EventAnswer, LossAnswer, ReadAnswer, UnderWayAnswer}
 use Rattle.replay.specs.Calls.{call_answer, question_answer}
-use Rattle.replay.specs.InWords.{AnswersKeepLaw, IsKept, IsNear, IsRightAmong, OrdersAreAlike, RunsKeepBeside}
+use Rattle.replay.specs.InWords.{AnswersKeepLaw, HistoryKeepsLaw, IsKept, IsNear, IsRightAmong, OrdersAreAlike, RunsKeepBeside}
 use Rattle.replay.specs.InWords.{asked_of, version_by, versions_by}
 use Rattle.replay.specs.Replay.{IsReplayed, end_answer, end_entries, whole_history}
 use Rattle.replay.specs.Runs.{IsRun, NoCall, OneMore, TookFor, call_entry, event_entry, question_entry}
@@ -333,6 +333,9 @@ module _ {B K : Type 0} (order : K → K → Ordering) (meaning : B → Meaning)
   module _ (beside : Sample → Result ℕ ℕ → B → B → Type 0) where
     pub answers_keep_law : AnswersKeepLaw order meaning beside
     answers_keep_law start run answers r = (as_many run answers r, keeps run answers r)
+
+    pub history_keeps_law : HistoryKeepsLaw order meaning beside
+    history_keeps_law start run answers r clause = r.lawful clause
 
     -- what a take keeps, an event keeps, and so does a call
     module _ (number : B → ℕ)

@@ -1,18 +1,21 @@
--- What the law says of the answers alone: the words of a run, in which no history is named.
-use Rattle.std.specs.Prelude.{◌≡◌, ℕ, ◌+◌, ◌≤◌, ◌⊎◌, ⊤, List, ◌++◌, length, map, take, Some, None, Ok, Option, Result}
+-- What the law of whole runs says of the answers alone; and what else a run keeps.
+use Rattle.std.specs.Prelude.{◌≡◌, ℕ, ◌+◌, ◌≤◌, ◌⊎◌, ⊤, Bool, true, if◌then◌else◌, Some, None, Ok, Option, Result}
+use Rattle.std.specs.Prelude.{List, [], ◌∷◌, ◌++◌, length, map, take}
 use Rattle.std.specs.declared.cmp.Ordering.{Ordering}
 use Rattle.std.specs.List.{filter_map, zip}
 use Rattle.clocks.specs.Bank.{Meaning}
 use Rattle.clocks.specs.declared.sample.Sample.{Sample}
-use Rattle.history.specs.History.{events_of}
+use Rattle.history.specs.History.{Closed, Entry, Setup, events_of}
+use Rattle.history.specs.Law.{Clause, Holds}
 use Rattle.history.specs.Unique.{AreSame, AreSentOnce, IsReordering, KeepsMessages}
-use Rattle.recorder.specs.State.{State}
+use Rattle.recorder.specs.State.{State, is_settled}
 use Rattle.stamps.specs.Stamp.{code_of}
 use Rattle.store.specs.Newest.{IsIn, IsReadAnswer}
 use Rattle.store.specs.Page.{IsPage}
 use Rattle.store.specs.declared.version.Version.{Version}
-use Rattle.replay.specs.Calls.{AnswerNumbers, CutAnswer, EventAnswer, ReadAnswer}
+use Rattle.replay.specs.Calls.{AnswerNumbers, CutAnswer, EventAnswer, ReadAnswer, question_answer}
 use Rattle.replay.specs.Replay.{IsReplayed, whole_history}
+use Rattle.replay.specs.Runs.{question_entry}
 use Rattle.replay.specs.declared.call.Call.{Call}
 use Rattle.replay.specs.declared.call.Call.TheVariants as call
 use Rattle.replay.specs.declared.call.Question.{Question}
@@ -65,6 +68,18 @@ module _ {B K : Type 0} (order : K → K → Ordering) (meaning : B → Meaning)
         → (length answers ≡ length (asked_of run))
         × ((c : Call K) (a : AnswerNumbers K) → IsIn (c, a) (zip (asked_of run) answers)
         → IsKept start (versions_by (asked_of run) answers) c a)
+
+    -- The law, clause by clause, over what a run came to, written out: what was told of its calls, the close, what was told then.
+    abbrev pub HistoryKeepsLaw : Type 0
+    HistoryKeepsLaw = (start : State B K) (run : Run K) (answers : List (AnswerNumbers K))
+        → (r : IsReplayed order meaning beside start run answers)
+        → let backstep : ℕ → ℕ = λ node. (meaning start.bank node).backstep in
+        let setup : Setup = record { nodes = length start.last; lead = start.lead; backstep = backstep } in
+        let close : List (Entry K) = (if run.closes then Closed ∷ [] else []) in
+        let settled : ℕ → Bool = λ stamp. (if run.closes then true else is_settled r.end stamp) in
+        let answer : Question K → AnswerNumbers K = question_answer order settled r.end.contents r.end.messages in
+        let answered : List (Entry K) = filter_map (λ q. question_entry q (answer q)) run.questions.items in
+        (clause : Clause) → Holds order setup (r.told ++ (close ++ answered)) clause
 
     -- Whatever number of a bank every take keeps, a run keeps.
     abbrev pub RunsKeepBeside : Type 0

@@ -291,4 +291,6 @@ module _ {K : Type 0} (order : K → K → Ordering) (law : IsKeyOrder order) (k
   bites Cuts history is_in = cuts history is_in
 
 pub each_clause_bites : {K : Type 0} (order : K → K → Ordering) → IsKeyOrder order → EachClauseBites order
-each_clause_bites order law key = bites order law key
+each_clause_bites order law key clause history is_in =
+    let only = bites order law key clause history is_in in
+    (only, λ lawful. only.breaks (lawful clause))

@@ -6,7 +6,7 @@ use Rattle.store.specs.Newest.{IsIn}
 use Rattle.store.specs.declared.version.Version.{Version}
 use Rattle.history.specs.Events.{Note, Put, Receipt, Send, What}
 use Rattle.history.specs.History.{Closed, Cut, Entered, Entry, IsHistory, Read, Setup, events_of}
-use Rattle.history.specs.Law.{Clause, Counter, Cuts, Drift, Holds, Later, Reads, Time}
+use Rattle.history.specs.Law.{Clause, Counter, Cuts, Drift, Holds, IsLawful, Later, Reads, Time}
 use Rattle.history.specs.Unique.{AreSentOnce, IsReordering, KeepsMessages}
 
 -- two nodes, whose clocks may fall by 20 ms and by 30 ms; messages may be ahead by 500 ms
@@ -124,6 +124,7 @@ module _ {K : Type 0} (order : K → K → Ordering) where
     pub breaks : Holds order small_setup history clause → ⊥
     pub others : (other : Clause) → other ≢ clause → Holds order small_setup history other
 
-  -- no clause of the law is empty
+  -- no clause of the law is empty, and none is left out of it
   abbrev pub EachClauseBites : Type 0
-  EachClauseBites = (key : K) (clause : Clause) (history : List (Entry K)) → IsIn history (broken key clause) → BreaksOnly history clause
+  EachClauseBites = (key : K) (clause : Clause) (history : List (Entry K)) → IsIn history (broken key clause)
+      → BreaksOnly history clause × (IsLawful order small_setup history → ⊥)

@@ -3,3 +3,4 @@ mod Standing
 mod Asking
 pub mod Whole
 pub mod Written
+pub mod InWords

@@ -58,7 +58,7 @@ at_put = standing (raised_high 0 1000 fresh_highs) (at 1000 0 ∷ at 0 0 ∷ [])
 
 abbrev at_send : State (ℕ → ℕ) ℕ
 at_send =
-    let sent : MessageNumbers = record { number = 1; to = 1; stamp = at 1000 1 } in
+    let sent : MessageNumbers = record { number = 5; to = 1; stamp = at 1000 1 } in
     standing (raised_high 0 1000 at_put.bank) (at 1000 1 ∷ at 0 0 ∷ []) (sent ∷ []) (version ∷ [])
 
 abbrev at_receipt : State (ℕ → ℕ) ℕ
@@ -136,5 +136,13 @@ some_rows =
 pub run_is_told : RunIsTold
 run_is_told = (
   some_rows,
-  λ rows code. (at_note, run rows, rw rows.one_place refl, simp rows.one_place refl, refl),
+  λ rows code. (
+    at_note,
+    run rows,
+    rw rows.one_place refl,
+    simp rows.one_place refl,
+    λ run closes asks. rw (closes, asks) (simp rows.one_place refl),
+    refl,
+  ),
+  refl,
 )

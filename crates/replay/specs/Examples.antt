@@ -1,5 +1,5 @@
 -- One short run, written out: its calls, what each answers, and all that the history is told of it.
-use Rattle.std.specs.Prelude.{◌≡◌, ℕ, pos, true, false, List, [], ◌∷◌, map, Some, None, Ok, Err, Result, Vec}
+use Rattle.std.specs.Prelude.{◌≡◌, ℕ, pos, true, false, List, [], ◌∷◌, ◌++◌, map, Some, None, Ok, Err, Result, Vec}
 use Rattle.std.specs.declared.alloc.Global.{Global}
 use Rattle.std.specs.Ordering.{nat_cmp}
 use Rattle.clocks.specs.Bank.{Meaning}
@@ -14,12 +14,13 @@ use Rattle.stamps.specs.Stamp.{Timestamp}
 use Rattle.store.specs.declared.version.Version.{Version}
 use Rattle.recorder.specs.State.{State, fresh_state}
 use Rattle.replay.specs.Calls.{AnswerNumbers, CutAnswer, EventAnswer, LossAnswer, ReadAnswer, UnderWayAnswer}
-use Rattle.replay.specs.Replay.{end_answer, end_entries}
+use Rattle.replay.specs.Replay.{end_answer, end_entries, setup_of, whole_history}
 use Rattle.replay.specs.Runs.{IsRun}
 use Rattle.replay.specs.declared.call.Call.{Call}
 use Rattle.replay.specs.declared.call.Call.TheVariants as call
 use Rattle.replay.specs.declared.call.Question.{Question}
 use Rattle.replay.specs.declared.call.Question.TheVariants as question
+use Rattle.replay.specs.declared.replay.Run.{Run}
 
 -- The rows that the caller brings: a list of two places, one of one and one of none for versions, and one place for a message.
 pub record Rows : Type 0 where
@@ -65,14 +66,14 @@ abbrev pub version : Version ℕ
 version = record { key = 7; stamp = 65536000; node = 0; value = pos 1 }
 
 module _ (rows : Rows) where
-  -- key 7 is put, and a message goes from node 0 to node 1; 65536002 is the code of 1000.2, and 65536003 that of 1000.3
+  -- key 7 is put, and message 5 goes from node 0 to node 1; 65536002 is the code of 1000.2, and 65536003 that of 1000.3
   abbrev pub calls : List (Call ℕ)
   calls =
       call.Put (sample 0 1000) 7 (pos 1)
       ∷ call.Note (sample 0 979)
-      ∷ call.Send (sample 0 1000) 1 1
-      ∷ call.Receipt (sample 1 990) 1
-      ∷ call.Loss 1
+      ∷ call.Send (sample 0 1000) 1 5
+      ∷ call.Receipt (sample 1 990) 5
+      ∷ call.Loss 5
       ∷ call.Note (sample 0 1000)
       ∷ call.Ask (question.Read 7 65536002)
       ∷ call.Ask (question.Cut 65536002 rows.two)
@@ -109,8 +110,8 @@ answers_then = ReadAnswer (Ok None) ∷ CutAnswer (Ok 1) (version ∷ []) ∷ []
 abbrev pub told : List (Entry ℕ)
 told =
     Entered (record { node = 0; reading = 1000; stamp = at 1000 0; what = Put 7 (pos 1) })
-    ∷ Entered (record { node = 0; reading = 1000; stamp = at 1000 1; what = Send 1 })
-    ∷ Entered (record { node = 1; reading = 990; stamp = at 1000 2; what = Receipt 1 })
+    ∷ Entered (record { node = 0; reading = 1000; stamp = at 1000 1; what = Send 5 })
+    ∷ Entered (record { node = 1; reading = 990; stamp = at 1000 2; what = Receipt 5 })
     ∷ Entered (record { node = 0; reading = 1000; stamp = at 1000 2; what = Note })
     ∷ Read 7 65536002 (Some version)
     ∷ Cut 65536002 1 (version ∷ [])
@@ -128,4 +129,7 @@ RunIsTold =
     × IsRun nat_cmp clocks nothing_beside fresh (calls rows) (answers rows) told end
     × (map (end_answer nat_cmp clocks true end) (questions rows code) ≡ answers_then)
     × (end_entries nat_cmp clocks true end (questions rows code) ≡ told_then code)
+    × ((run : Run ℕ) → run.closes ≡ true → run.questions.items ≡ questions rows code
+    → whole_history nat_cmp clocks run told end ≡ told ++ told_then code)
     × (end_entries nat_cmp clocks false end (questions rows 65536002) ≡ Read 8 65536002 None ∷ []))
+    × (setup_of clocks fresh ≡ record { nodes = 2; lead = 500; backstep = λ node. 20 })

@@ -2,4 +2,5 @@ pub mod Calls
 pub mod Runs
 pub mod Replay
 pub mod Within
+pub mod InWords
 pub mod Examples

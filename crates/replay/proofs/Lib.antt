@@ -2,5 +2,3 @@ mod Gaining
 mod Standing
 mod Asking
 pub mod Whole
-pub mod Written
-pub mod InWords

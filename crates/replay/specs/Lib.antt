@@ -2,5 +2,3 @@ pub mod Calls
 pub mod Runs
 pub mod Replay
 pub mod Within
-pub mod InWords
-pub mod Examples

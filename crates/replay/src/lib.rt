@@ -3,6 +3,4 @@
 
 mod ask;
 pub mod call;
-pub mod examples;
 pub mod replay;
-pub mod words;

@@ -15,7 +15,7 @@ use Rattle.messages.specs.Messages.{MessageNumbers}
 use Rattle.messages.specs.declared.message.Message.{Message}
 use Rattle.recorder.specs.State.{State, is_settled}
 use Rattle.replay.specs.Calls.{AnswerNumbers, after_call, call_answer, question_answer}
-use Rattle.replay.specs.Examples.{RunIsTold, Rows, answers, at, calls, clocks, fresh, nothing_beside, told, version}
+use Rattle.run_laws.specs.Examples.{RunIsTold, Rows, answers, at, calls, clocks, fresh, nothing_beside, told, version}
 use Rattle.replay.specs.Runs.{IsCalled, IsRun, NoCall, OneMore, TookFor, call_entry, question_entry}
 use Rattle.replay.specs.declared.call.Call.{Call}
 use Rattle.replay.specs.declared.call.Call.TheVariants as call

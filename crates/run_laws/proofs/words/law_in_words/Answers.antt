@@ -1,5 +1,5 @@
-use Rattle.replay.proofs.InWords.{answers_keep_law, history_keeps_law, orders_are_alike, runs_keep_beside}
-use Rattle.replay.proofs.words.law_in_words.Goals as goal
+use Rattle.run_laws.proofs.InWords.{answers_keep_law, history_keeps_law, orders_are_alike, runs_keep_beside}
+use Rattle.run_laws.proofs.words.law_in_words.Goals as goal
 
 pub returns-clause-answers : goal.returns-clause-answers
 returns-clause-answers g c = answers_keep_law _ _ _

@@ -17,21 +17,22 @@ use Rattle.stamps.specs.Stamp.{Timestamp}
 use Rattle.store.specs.Contents.{Contents}
 use Rattle.store.specs.Newest.{IsIn}
 use Rattle.store.specs.declared.version.Version.{Version}
-use Rattle.history.specs.Events.{Event, Note, Put, Receipt, Send, What, event_at, no_event, puts, version_of}
+use Rattle.history.specs.Events.{Event, Note, Put, Receipt, Send, What, no_event, puts, version_of}
 use Rattle.history.specs.History.{Closed, Entered, Entry, event_of, events_of}
 use Rattle.history.specs.Law.{Cuts, Drift, Reads}
 use Rattle.history.proofs.Entries.{events_of-append}
 use Rattle.history.proofs.Lists.{each_push, in_append, placed}
 use Rattle.history.proofs.Puts.{puts-append}
 use Rattle.history.proofs.Unique.{stamps_once}
-use Rattle.recorder.specs.Answers.{at_reading, clock_answer, note_answer, put_answer, receipt_answer, send_answer}
-use Rattle.recorder.specs.Changes.{TookReading}
-use Rattle.recorder.specs.Stamps.{stamp_at}
+use Rattle.recorder.specs.Answers.{clock_answer, receipt_answer}
+use Rattle.stamper.specs.Readings.{at_reading}
+use Rattle.stamper.specs.Readings.{TookReading}
+use Rattle.stamper.specs.Stamps.{stamp_at}
 use Rattle.recorder.specs.State.{State, is_settled}
 use Rattle.replay.specs.Calls.{AnswerNumbers, CutAnswer, EventAnswer, LossAnswer, ReadAnswer, UnderWayAnswer}
 use Rattle.replay.specs.Calls.{call_answer, question_answer}
-use Rattle.replay.specs.InWords.{AnswersKeepLaw, HistoryKeepsLaw, IsKept, IsNear, IsRightAmong, OrdersAreAlike, RunsKeepBeside}
-use Rattle.replay.specs.InWords.{asked_of, version_by, versions_by}
+use Rattle.run_laws.specs.InWords.{AnswersKeepLaw, HistoryKeepsLaw, IsKept, IsNear, IsRightAmong, OrdersAreAlike, RunsKeepBeside}
+use Rattle.run_laws.specs.InWords.{asked_of, version_by, versions_by}
 use Rattle.replay.specs.Replay.{IsReplayed, end_answer, end_entries, whole_history}
 use Rattle.replay.specs.Runs.{IsRun, NoCall, OneMore, TookFor, call_entry, event_entry, question_entry}
 use Rattle.replay.specs.declared.call.Call.{Call}

@@ -1,6 +1,6 @@
 // The law of whole runs, said of the answers.
 ghost use Rattle.std.specs.Prelude.{◌≡◌, true};
-ghost use Rattle.replay.specs.InWords.{AnswersKeepLaw, HistoryKeepsLaw, OrdersAreAlike, RunsKeepBeside};
+ghost use Rattle.run_laws.specs.InWords.{AnswersKeepLaw, HistoryKeepsLaw, OrdersAreAlike, RunsKeepBeside};
 
 use clocks::bank::ClockBank;
 use keys::kind::KeyKind;

@@ -1,5 +1,0 @@
-use Rattle.replay.proofs.Written.{run_is_told}
-use Rattle.replay.proofs.examples.run_is_told.Goals as goal
-
-pub returns-clause-told : goal.returns-clause-told
-returns-clause-told c = run_is_told

@@ -1,0 +1,2 @@
+mod InWords
+mod Written

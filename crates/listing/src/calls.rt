@@ -118,7 +118,7 @@ pub(crate) fn calls_for<K: TraceKey>(
 ) -> Result<Vec<Call<K>>, AllocError>
     ensures { IfOk result (λ calls. calls.items ≡ calls_of K.form (map content_of records.now)) }
 {
-    let mut calls = Vec::new(heap);
+    let mut calls = Vec::with_capacity(heap, records.len())?;
     for record in records {
         if let Ok(call) = call_for(record) {
             calls.push(call)?;

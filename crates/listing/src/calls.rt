@@ -62,6 +62,7 @@ impl TraceKey for Tag {
 }
 
 // The call of a record, or why it is refused before the recorder sees it.
+#[inline(always)]
 pub(crate) fn call_for<K: TraceKey>(record: &Record) -> Result<Call<K>, Refusal>
     ensures { shown result ≡ call_of K.form (content_of «record».now) }
 {

@@ -12,11 +12,13 @@ KEYS = 300
 NAME = "ABCDEFGHIJKLMNOPQRSTUVWXYZ0123456789-"
 LARGEST = 30  # the longest record, a put by tag
 
-# How many of a hundred records are what; the last are refused for various reasons.
+# How many of a hundred records are what; the last are refused for various reasons. Losses are the shortest records: most of
+# these are of messages that are not under way, so that there are as many records as a trace has at most.
 MIXES = {
     "puts": {"put": 88, "read": 3, "note": 3, "send": 2, "receipt": 2, "bad": 2},
     "reads": {"read": 88, "put": 5, "note": 3, "send": 1, "receipt": 1, "bad": 2},
     "messages": {"send": 46, "receipt": 40, "loss": 10, "note": 2, "bad": 2},
+    "losses": {"loss": 98, "send": 1, "bad": 1},
     "mixed": {"put": 25, "read": 25, "note": 14, "send": 16, "receipt": 14, "loss": 4, "bad": 2},
 }
 
@@ -84,7 +86,7 @@ class Maker:
 
     def loss(self):
         if not self.under_way:
-            return self.note()
+            return struct.pack(">BI", 4, self.next_number)
         number = self.random.choice(list(self.under_way))
         del self.under_way[number]
         return struct.pack(">BI", 4, number)

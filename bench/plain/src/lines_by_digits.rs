@@ -1,6 +1,8 @@
-//! Lines, with numbers written digit by digit, two at a time.
+//! Lines as bytes, with numbers written digit by digit, two at a time.
 use crate::listing::Outcome;
 use crate::recorder::{Refusal, Stamp};
+
+pub type Text = Vec<u8>;
 
 const PAIRS: &[u8; 200] = b"\
     0001020304050607080910111213141516171819\
@@ -9,7 +11,7 @@ const PAIRS: &[u8; 200] = b"\
     6061626364656667686970717273747576777879\
     8081828384858687888990919293949596979899";
 
-fn add_number(text: &mut String, mut number: u64) {
+fn add_number(text: &mut Text, mut number: u64) {
     let mut digits = [0; 20];
     let mut start = digits.len();
     while number >= 100 {
@@ -26,72 +28,72 @@ fn add_number(text: &mut String, mut number: u64) {
         start -= 1;
         digits[start] = b'0' + number as u8;
     }
-    text.push_str(std::str::from_utf8(&digits[start..]).unwrap());
+    text.extend_from_slice(&digits[start..]);
 }
 
-fn add_signed(text: &mut String, number: i32) {
+fn add_signed(text: &mut Text, number: i32) {
     if number < 0 {
-        text.push('-');
+        text.push(b'-');
     }
     add_number(text, number.unsigned_abs().into());
 }
 
-fn add_stamp(text: &mut String, stamp: Stamp) {
+fn add_stamp(text: &mut Text, stamp: Stamp) {
     add_number(text, stamp.time);
-    text.push('.');
+    text.push(b'.');
     add_number(text, stamp.counter.into());
 }
 
-pub fn add_outcome(text: &mut String, number: u64, outcome: &Outcome) {
+pub fn add_outcome(text: &mut Text, number: u64, outcome: &Outcome) {
     add_number(text, number);
     match outcome {
-        Outcome::SetUp => text.push_str(" setup"),
+        Outcome::SetUp => text.extend_from_slice(b" setup"),
         Outcome::Event { word, node, event } => {
-            text.push(' ');
-            text.push_str(word);
-            text.push(' ');
+            text.push(b' ');
+            text.extend_from_slice(word.as_bytes());
+            text.push(b' ');
             add_number(text, u64::from(*node));
-            text.push(' ');
+            text.push(b' ');
             add_stamp(text, event.stamp);
-            text.push_str(" drift ");
+            text.extend_from_slice(b" drift ");
             add_number(text, event.drift);
         }
         Outcome::Loss { message } => {
-            text.push_str(" loss ");
+            text.extend_from_slice(b" loss ");
             add_number(text, u64::from(*message));
         }
         Outcome::Read { newest: Some(version) } => {
-            text.push_str(" read ");
+            text.extend_from_slice(b" read ");
             add_signed(text, version.value);
-            text.push(' ');
+            text.push(b' ');
             add_stamp(text, version.stamp);
-            text.push(' ');
+            text.push(b' ');
             add_number(text, u64::from(version.node));
         }
-        Outcome::Read { newest: None } => text.push_str(" read none"),
+        Outcome::Read { newest: None } => text.extend_from_slice(b" read none"),
     }
-    text.push('\n');
+    text.push(b'\n');
 }
 
-pub fn add_refused(text: &mut String, number: u64, refusal: Refusal) {
+pub fn add_refused(text: &mut Text, number: u64, refusal: Refusal) {
     add_number(text, number);
-    text.push_str(" refused ");
+    text.extend_from_slice(b" refused ");
     add_number(text, refusal as u64);
-    text.push('\n');
+    text.push(b'\n');
 }
 
-pub fn add_bad(text: &mut String, refusal: Refusal, offset: usize) {
-    text.push_str("bad ");
+pub fn add_bad(text: &mut Text, refusal: Refusal, offset: usize) {
+    text.extend_from_slice(b"bad ");
     add_number(text, refusal as u64);
-    text.push_str(" at ");
+    text.extend_from_slice(b" at ");
     add_number(text, offset as u64);
-    text.push('\n');
+    text.push(b'\n');
 }
 
-pub fn add_end(text: &mut String, accepted: u64, refused: u64) {
-    text.push_str("end ");
+pub fn add_end(text: &mut Text, accepted: u64, refused: u64) {
+    text.extend_from_slice(b"end ");
     add_number(text, accepted);
-    text.push(' ');
+    text.push(b' ');
     add_number(text, refused);
-    text.push('\n');
+    text.push(b'\n');
 }

@@ -4,7 +4,9 @@ use std::fmt::Write;
 use crate::listing::Outcome;
 use crate::recorder::{Event, Refusal, Stamp, Version};
 
-pub fn add_outcome(text: &mut String, number: u64, outcome: &Outcome) {
+pub type Text = String;
+
+pub fn add_outcome(text: &mut Text, number: u64, outcome: &Outcome) {
     match outcome {
         Outcome::SetUp => writeln!(text, "{number} setup"),
         Outcome::Event { word, node, event } => {
@@ -21,14 +23,14 @@ pub fn add_outcome(text: &mut String, number: u64, outcome: &Outcome) {
     .unwrap();
 }
 
-pub fn add_refused(text: &mut String, number: u64, refusal: Refusal) {
+pub fn add_refused(text: &mut Text, number: u64, refusal: Refusal) {
     writeln!(text, "{number} refused {}", refusal as u8).unwrap();
 }
 
-pub fn add_bad(text: &mut String, refusal: Refusal, offset: usize) {
+pub fn add_bad(text: &mut Text, refusal: Refusal, offset: usize) {
     writeln!(text, "bad {} at {offset}", refusal as u8).unwrap();
 }
 
-pub fn add_end(text: &mut String, accepted: u64, refused: u64) {
+pub fn add_end(text: &mut Text, accepted: u64, refused: u64) {
     writeln!(text, "end {accepted} {refused}").unwrap();
 }

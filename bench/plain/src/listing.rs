@@ -1,5 +1,5 @@
 //! The lines of a listing.
-use crate::lines;
+use crate::lines::{self, Text};
 use crate::recorder::{Event, KeyKind, Recorder, Refusal, Settings, Version};
 use crate::trace::{Record, Records};
 
@@ -18,8 +18,8 @@ struct Counts {
     refused: u64,
 }
 
-pub fn listing_of(trace: &[u8]) -> String {
-    let mut text = String::new();
+pub fn listing_of(trace: &[u8]) -> Text {
+    let mut text = Text::new();
     let mut records = Records::new(trace);
     let mut counts = Counts::default();
     if let Err((refusal, offset)) = add_lines(&mut text, &mut records, &mut counts) {
@@ -29,7 +29,7 @@ pub fn listing_of(trace: &[u8]) -> String {
     text
 }
 
-fn add_lines(text: &mut String, records: &mut Records, counts: &mut Counts) -> Result<(), (Refusal, usize)> {
+fn add_lines(text: &mut Text, records: &mut Records, counts: &mut Counts) -> Result<(), (Refusal, usize)> {
     let Some(first) = records.next() else {
         return Ok(());
     };
@@ -59,7 +59,7 @@ fn set_up(first: Record) -> Result<(Settings, KeyKindByte), Refusal> {
     }
 }
 
-fn add_run<K: KeyKind>(text: &mut String, records: &mut Records, counts: &mut Counts, settings: Settings) -> Result<(), Refusal> {
+fn add_run<K: KeyKind>(text: &mut Text, records: &mut Records, counts: &mut Counts, settings: Settings) -> Result<(), Refusal> {
     let mut recorder = Recorder::<K>::new(settings);
     for record in records {
         let outcome = outcome_of(&mut recorder, record?);
@@ -68,7 +68,7 @@ fn add_run<K: KeyKind>(text: &mut String, records: &mut Records, counts: &mut Co
     Ok(())
 }
 
-fn add_outcome(text: &mut String, counts: &mut Counts, outcome: Result<Outcome, Refusal>) {
+fn add_outcome(text: &mut Text, counts: &mut Counts, outcome: Result<Outcome, Refusal>) {
     let number = counts.accepted + counts.refused + 1;
     match outcome {
         Ok(outcome) => {

@@ -14,6 +14,6 @@ const LONGEST: usize = 65_536;
 fn main() -> io::Result<()> {
     let mut trace = Vec::new();
     io::stdin().lock().take(LONGEST as u64 + 1).read_to_end(&mut trace)?;
-    let text = if trace.len() > LONGEST { String::from("too long\n") } else { listing::listing_of(&trace) };
-    io::stdout().write_all(text.as_bytes())
+    let text = if trace.len() > LONGEST { "too long\n".into() } else { listing::listing_of(&trace) };
+    io::stdout().write_all(text.as_ref())
 }

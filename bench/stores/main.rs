@@ -149,6 +149,15 @@ impl<K: Copy> Store<'_, K> {
     }
 }
 
+/// A number of nanoseconds, or a dash where nothing was measured.
+fn cell(nanos: f64) -> String {
+    if nanos.is_nan() {
+        "–".into()
+    } else {
+        format!("{nanos:.0}")
+    }
+}
+
 /// Prints a row for each size of the store: an add in random and in ascending order, and an at after each, in nanoseconds.
 fn print_rows<K: Ord + Copy>(kind: &str, keys_of: impl Fn(usize) -> Vec<K>, stores: [Store<K>; 3]) {
     for Store { name, job } in stores {
@@ -175,10 +184,8 @@ fn print_rows<K: Ord + Copy>(kind: &str, keys_of: impl Fn(usize) -> Vec<K>, stor
             } else {
                 [f64::NAN; 2]
             };
-            println!(
-                "| {name} | {kind} | {size} | {:.0} | {at:.0} | {add_ascending:.0} | {at_ascending:.0} |",
-                store.add_nanos(&random)
-            );
+            let cells = [store.add_nanos(&random), at, add_ascending, at_ascending].map(cell);
+            println!("| {name} | {kind} | {size} | {} |", cells.join(" | "));
         }
     }
 }

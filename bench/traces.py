@@ -22,13 +22,17 @@ MIXES = {
     "mixed": {"put": 25, "read": 25, "note": 14, "send": 16, "receipt": 14, "loss": 4, "bad": 2},
 }
 
+CROWDED = {"send": 90, "receipt": 5}
+
 
 class Maker:
     """Makes records that a recorder accepts, by keeping the stamps that it gives."""
 
-    def __init__(self, seed, tags):
+    def __init__(self, seed, tags, lead=LEAD, most_under_way=MAX_UNDER_WAY):
         self.random = random.Random(seed)
         self.tags = tags
+        self.lead = lead
+        self.most_under_way = most_under_way
         self.keys = [self.new_key() for _ in range(KEYS)]
         self.now = 1_700_000_000_000
         self.high = [0] * NODES
@@ -43,7 +47,7 @@ class Maker:
         return struct.pack(">I", self.random.getrandbits(32))
 
     def set_up(self):
-        return struct.pack(">BBBII", 0, NODES, self.tags, LEAD, BACKSTEP)
+        return struct.pack(">BBBII", 0, NODES, self.tags, self.lead, BACKSTEP)
 
     def stamp(self, node, raw, floor=(0, 0)):
         last = max(self.last[node], floor)
@@ -67,7 +71,7 @@ class Maker:
         return struct.pack(">BBQ", 1, node, raw)
 
     def send(self):
-        if len(self.under_way) == MAX_UNDER_WAY:
+        if len(self.under_way) == self.most_under_way:
             return self.receipt()
         node, raw = self.sample()
         number, to = self.next_number, self.random.randrange(NODES)
@@ -80,7 +84,7 @@ class Maker:
             return self.note()
         number = self.random.choice(list(self.under_way))
         to, sent = self.under_way.pop(number)
-        raw = max(self.sample()[1], self.high[to] - BACKSTEP, sent[0] - LEAD)
+        raw = max(self.sample()[1], self.high[to] - BACKSTEP, sent[0] - self.lead)
         self.stamp(to, raw, sent)
         return struct.pack(">BBQI", 3, to, raw, number)
 
@@ -121,6 +125,19 @@ class Maker:
             struct.pack(">BBBII", 0, 1, 0, 0, 0),
         ))
 
+    def odd(self):
+        """A send or a receipt of a message that is under way, mostly refused."""
+        if not self.under_way:
+            return self.bad()
+        node, raw = self.sample()
+        number = self.random.choice(list(self.under_way))
+        to, _ = self.under_way[number]
+        return self.random.choice((
+            struct.pack(">BBQBI", 2, node, raw, to, number),
+            struct.pack(">BBQI", 3, (to + 1) % NODES, raw, number),
+            struct.pack(">BBQI", 3, to, max(1, self.high[to] - BACKSTEP), number),
+        ))
+
 
 def full_trace(seed, tags, mix):
     """As many bytes as are listed, up to one record less."""
@@ -151,18 +168,18 @@ def odd_traces(seed, count):
     yield bytes(LONGEST)
     chance = random.Random(seed)
     for number in range(count):
-        tags = number % 2
-        mix = chance.choice(list(MIXES))
-        maker = Maker(f"{seed} odd {number}", tags)
+        # Some recorders take no message that is ahead, and some makers send more messages than may be under way.
+        maker = Maker(f"{seed} odd {number}", number % 2, chance.choice((LEAD, 0, 3)), chance.choice((MAX_UNDER_WAY, 5000)))
+        mix = chance.choice([*MIXES.values(), CROWDED]) | {"odd": 5}
+        kinds, weights = zip(*mix.items())
         parts = [maker.set_up()]
-        kinds, weights = zip(*MIXES[mix].items())
-        for _ in range(chance.choice((0, 3, 30, 300, 1200))):
+        for _ in range(chance.choice((0, 3, 30, 300, 1200, 2000))):
             parts.append(maker.record(chance.choices(kinds, weights)[0]))
         trace = bytearray(b"".join(parts))
         if chance.random() < 0.3:
             del trace[chance.randrange(len(trace)):]
         for _ in range(chance.choice((0, 0, 1, 2, 5, 20))):
             if trace:
-                trace[chance.randrange(min(len(trace), chance.choice((12, len(trace)))))] = chance.choice(
-                    (0, 1, 255, chance.randrange(256)))
+                place = chance.randrange(min(len(trace), chance.choice((12, len(trace)))))
+                trace[place] = chance.choice((0, 1, 255, chance.randrange(256)))
         yield bytes(trace[:LONGEST + 1])

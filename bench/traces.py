@@ -12,17 +12,17 @@ KEYS = 300
 NAME = "ABCDEFGHIJKLMNOPQRSTUVWXYZ0123456789-"
 LARGEST = 30  # the longest record, a put by tag
 
-# How many of a hundred records are what; the last are refused for various reasons. Losses are the shortest records: most of
-# these are of messages that are not under way, so that there are as many records as a trace has at most.
+# How many of a hundred records are what; the last are refused for various reasons. A send is a receipt where as many messages are
+# under way as may be, as they soon are where it is crowded. Losses are the shortest records, and most are of messages that are not
+# under way, so that there are about as many records as a trace has at most.
 MIXES = {
     "puts": {"put": 88, "read": 3, "note": 3, "send": 2, "receipt": 2, "bad": 2},
     "reads": {"read": 88, "put": 5, "note": 3, "send": 1, "receipt": 1, "bad": 2},
     "messages": {"send": 46, "receipt": 40, "loss": 10, "note": 2, "bad": 2},
+    "crowded": {"send": 90, "receipt": 8, "bad": 2},
     "losses": {"loss": 98, "send": 1, "bad": 1},
     "mixed": {"put": 25, "read": 25, "note": 14, "send": 16, "receipt": 14, "loss": 4, "bad": 2},
 }
-
-CROWDED = {"send": 90, "receipt": 5}
 
 
 class Maker:
@@ -170,7 +170,7 @@ def odd_traces(seed, count):
     for number in range(count):
         # Some recorders take no message that is ahead, and some makers send more messages than may be under way.
         maker = Maker(f"{seed} odd {number}", number % 2, chance.choice((LEAD, 0, 3)), chance.choice((MAX_UNDER_WAY, 5000)))
-        mix = chance.choice([*MIXES.values(), CROWDED]) | {"odd": 5}
+        mix = chance.choice(list(MIXES.values())) | {"odd": 5}
         kinds, weights = zip(*mix.items())
         parts = [maker.set_up()]
         for _ in range(chance.choice((0, 3, 30, 300, 1200, 2000))):

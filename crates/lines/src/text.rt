@@ -1,7 +1,7 @@
-// Adds words, numbers and lines to a text: by `push_str`, which succeeds wherever the text has room. The
+// Adds words, numbers and lines to a text: by `push_str` and `push`, which succeed wherever the text has room. The
 // library promises that of no formatter.
 ghost use Rattle.lines.specs.Adding.{AddsInRoom};
-ghost use Rattle.lines.specs.Lines.{piece_text, line_text, stamp_text};
+ghost use Rattle.lines.specs.Lines.{gap, piece_text, line_text, stamp_text};
 
 use crate::line::Piece;
 use itoa::Buffer;
@@ -30,15 +30,23 @@ fn add_piece(text: &mut String, piece: Piece) -> Result<(), AllocError>
     }
 }
 
+// Parts the piece in this place of a line from the one before.
+fn add_gap(text: &mut String, place: usize) -> Result<(), AllocError>
+    ensures { AddsInRoom text.old text.new (gap place) result }
+{
+    if place == 0 {
+        return Ok(());
+    }
+    text.push(' ')
+}
+
 // Adds a line of these pieces.
 pub fn add_line(text: &mut String, pieces: &[Piece]) -> Result<(), AllocError>
     ensures { AddsInRoom text.old text.new (line_text pieces.now) result }
 {
-    let mut gap = "";
-    for piece in pieces {
-        text.push_str(gap)?;
+    for (place, piece) in pieces.iter().enumerate() {
+        add_gap(text, place)?;
         add_piece(text, *piece)?;
-        gap = " ";
     }
     text.push('\n')
 }

@@ -51,6 +51,7 @@ impl TraceKey for Tag {
 }
 
 // The call of a record, or why it is refused before the recorder sees it.
+#[inline(always)]
 pub fn call_for<K: TraceKey>(entry: &Record) -> Result<Call<K>, Refusal>
     ensures { shown result ≡ call_of K.form (content_of entry.now) }
 {
@@ -107,7 +108,7 @@ pub fn calls_for<K: TraceKey>(
 ) -> Result<Vec<Call<K>>, AllocError>
     ensures { IfOk result (λ calls. calls.items ≡ calls_of K.form (map content_of records.now)) }
 {
-    let mut calls = Vec::new(heap);
+    let mut calls = Vec::with_capacity(heap, records.len())?;
     for entry in records {
         if let Ok(call) = call_for(entry) {
             calls.push(call)?;

@@ -9,6 +9,9 @@ use std::alloc::{AllocError, Global};
 use trace::reader::Reader;
 use trace::records::Record;
 
+// So many bytes has the shortest record, a loss.
+const SHORTEST: usize = 5;
+
 // Where no more is read, and why.
 #[derive(Clone, Copy, Debug)]
 pub struct Bad {
@@ -28,7 +31,7 @@ pub fn read_records(heap: Global, trace: &[u8]) -> Result<Records<'_>, AllocErro
     ensures ending { IfOk result (λ r. ending_of r.bad ≡ (whole_of trace.now).ending) }
 {
     let mut reader = Reader::new(trace);
-    let mut list = Vec::new(heap);
+    let mut list = Vec::with_capacity(heap, trace.len() / SHORTEST)?;
     // A `for` would hold the reader, and a refusal asks it for the place.
     loop {
         match reader.next_entry() {

@@ -1,10 +1,8 @@
 -- A sequence of takes gains one at its end; and highs only rise while backsteps stay, so no reading falls too far.
 use Rattle.std.proofs.Common.{◌≡◌, ℕ, zero, suc, ◌+◌, ◌<◌, ◌≤◌, max, ◌≢◌, List, [], ◌∷◌, ◌++◌, length, Ok, Err, Result, sym, refl, ap, ◌∙◌, subst, arith}
 use Rattle.std.proofs.lemmas.Bool.Decides.{nat_tests}
-use Rattle.refusals.specs.Refusals.{result_map, shown}
 use Rattle.refusals.specs.declared.refusal.Refusal.{Refusal}
 use Rattle.clocks.specs.Bank.{Meaning, IsAllowed, IsLawful, Taken, look_answer}
-use Rattle.clocks.specs.Reading.{millis_of}
 use Rattle.clocks.specs.Runs.{Take, Step, Run, BankRun, KeepsBacksteps, take_of, takes_of, take_at}
 use Rattle.clocks.specs.declared.reading.Reading.{Reading}
 use Rattle.clocks.specs.declared.sample.Sample.{Sample}

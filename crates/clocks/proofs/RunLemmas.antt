@@ -1,32 +1,35 @@
 -- A sequence of takes gains one at its end; and highs only rise while backsteps stay, so no reading falls too far.
 use Rattle.std.proofs.Common.{◌≡◌, ℕ, zero, suc, ◌+◌, ◌<◌, ◌≤◌, max, ◌≢◌, List, [], ◌∷◌, ◌++◌, length, Ok, Err, Result, sym, refl, ap, ◌∙◌, subst, arith}
 use Rattle.std.proofs.lemmas.Bool.Decides.{nat_tests}
-use Rattle.refusals.specs.Refusals.{result_map, shown}
 use Rattle.refusals.specs.declared.refusal.Refusal.{Refusal}
 use Rattle.clocks.specs.Bank.{Meaning, IsAllowed, IsLawful, Taken, look_answer}
-use Rattle.clocks.specs.Reading.{millis_of}
-use Rattle.clocks.specs.Runs.{Take, Step, Run, KeepsBacksteps, takes_of, take_at}
+use Rattle.clocks.specs.Runs.{Take, Step, Run, BankRun, KeepsBacksteps, take_of, takes_of, take_at}
 use Rattle.clocks.specs.declared.reading.Reading.{Reading}
 use Rattle.clocks.specs.declared.sample.Sample.{Sample}
 
--- what was asked of a sample, with its answer
-abbrev pub take_of : Sample → Result Reading Refusal → Take
-take_of s a = record { node = s.node; raw = s.raw.0; answer = shown (result_map millis_of a) }
-
-pub takes_of_more : (samples : List Sample) (answers : List (Result Reading Refusal)) (s : Sample) (a : Result Reading Refusal)
-    → length answers ≡ length samples → takes_of (samples ++ s ∷ []) (answers ++ a ∷ []) ≡ takes_of samples answers ++ take_of s a ∷ []
-takes_of_more [] [] s a same = refl
-takes_of_more [] (b ∷ answers) s a same = absurd (omega arith)
-takes_of_more (x ∷ samples) [] s a same = absurd (omega arith)
-takes_of_more (x ∷ samples) (b ∷ answers) s a same =
-    ap (λ z. take_of x b ∷ z) (takes_of_more samples answers s a (omega arith))
-
--- one take more at the end
-pub run_more : (takes : List Take) (old new next : Meaning) (t : Take) → Run old takes new → Step new t next → IsLawful next → Run old (takes ++ t ∷ []) next
-run_more [] old new next t run step law = (run.0, (next, subst (λ m. Step m t next) run.1 step, (law, refl)))
-run_more (x ∷ takes) old new next t run step law =
+-- one sample more at the end
+pub bank_run_more : {B : Type 0} (meaning : B → Meaning) (beside : Sample → Result ℕ ℕ → B → B → Type 0)
+    (samples : List Sample) (answers : List (Result Reading Refusal)) (old new next : B) (s : Sample) (a : Result Reading Refusal)
+    → length answers ≡ length samples → BankRun meaning beside old samples answers new
+    → Step (meaning new) (take_of s a) (meaning next) → beside s (take_of s a).answer new next → IsLawful (meaning next)
+    → BankRun meaning beside old (samples ++ s ∷ []) (answers ++ a ∷ []) next
+bank_run_more meaning beside [] [] old new next s a same run step more law =
+    (run.0, (next, subst (λ b. Step (meaning b) (take_of s a) (meaning next)) run.1 step, subst (λ b. beside s (take_of s a).answer b next) run.1 more, (law, refl)))
+bank_run_more meaning beside [] (b ∷ answers) old new next s a same run step more law = absurd (omega arith)
+bank_run_more meaning beside (x ∷ samples) [] old new next s a same run step more law = absurd (omega arith)
+bank_run_more meaning beside (x ∷ samples) (b ∷ answers) old new next s a same run step more law =
     let first = run.1 in
-    (run.0, (first.0, first.1, run_more takes first.0 new next t first.2 step law))
+    (run.0, (first.0, first.1, first.2, bank_run_more meaning beside samples answers first.0 new next s a (omega arith) first.3 step more law))
+
+-- what it means, take by take
+pub run_of : {B : Type 0} (meaning : B → Meaning) (beside : Sample → Result ℕ ℕ → B → B → Type 0)
+    (samples : List Sample) (answers : List (Result Reading Refusal)) (old new : B)
+    → BankRun meaning beside old samples answers new → Run (meaning old) (takes_of samples answers) (meaning new)
+run_of meaning beside [] answers old new run = (run.0, ap meaning run.1)
+run_of meaning beside (x ∷ samples) [] old new run = (run.0, ap meaning run.1)
+run_of meaning beside (x ∷ samples) (b ∷ answers) old new run =
+    let first = run.1 in
+    (run.0, (meaning first.0, first.1, run_of meaning beside samples answers first.0 new first.3))
 
 -- a take lowers no high and changes no backstep
 record OnlyRises (old new : Meaning) (k : ℕ) : Type 0 where

@@ -21,7 +21,8 @@ impl Backstep {
 
     // Refused with 4 above a day.
     pub fn new(millis: u32) -> Result<Backstep, Refusal>
-        ensures { shown (result_map backstep_of result) ≡ backstep_setting millis }
+        ensures setting { shown (result_map backstep_of result) ≡ backstep_setting millis }
+        ensures most { Backstep.MAX ≡ day_millis }
     {
         if millis > Backstep::MAX {
             return Err(Refusal::SettingOutOfRange);

@@ -20,7 +20,8 @@ impl Offset {
 
     // Refused with 4 beyond a day either way.
     pub fn new(millis: i64) -> Result<Offset, Refusal>
-        ensures { shown (result_map offset_of result) ≡ offset_setting millis }
+        ensures setting { shown (result_map offset_of result) ≡ offset_setting millis }
+        ensures most { Offset.MAX ≡ pos 86400000 }
     {
         if !(-Offset::MAX..=Offset::MAX).contains(&millis) {
             return Err(Refusal::SettingOutOfRange);

@@ -25,7 +25,8 @@ impl Reading {
 
     // Refused with 8 outside the range.
     pub(crate) fn new(millis: u64) -> Result<Reading, Refusal>
-        ensures { shown (result_map millis_of result) ≡ reading_of millis }
+        ensures reading { shown (result_map millis_of result) ≡ reading_of millis }
+        ensures highest { Reading.MAX ≡ max_reading }
     {
         if !(1..=Reading::MAX).contains(&millis) {
             return Err(Refusal::ReadingOutOfRange);

@@ -15,10 +15,11 @@ pub fn take_all<B: ClockBank>(
     samples: &[Sample],
     answers: &mut Vec<Result<Reading, Refusal>>,
 ) -> Result<(), AllocError>
-    ensures taken { let took = TookAll (B.meaning bank.old) (B.meaning bank.new) in
+    ensures taken { let took = TookAll B.meaning B.beside bank.old bank.new in
         OnOk result (took samples.now answers.old.items answers.new.items) }
     ensures bank_stays { OnErr result (bank.new ≡ bank.old) }
     ensures answers_stay { OnErr result (answers.new.items ≡ answers.old.items) }
+    ensures capacity { vec_capacity answers.old ≤ vec_capacity answers.new }
     ensures room { vec_len answers.old + length samples.now ≤ vec_capacity answers.old → IsOk result }
 {
     answers.reserve(samples.len())?;

@@ -24,7 +24,8 @@ impl Tick {
 
     // Refused with 4 for a base above the highest reading, or a step outside 1 to 1000.
     pub fn new(base: u64, step: u32) -> Result<Tick, Refusal>
-        ensures { shown (result_map tick_of result) ≡ tick_setting base step }
+        ensures setting { shown (result_map tick_of result) ≡ tick_setting base step }
+        ensures most { Tick.MAX_STEP ≡ max_step }
     {
         if base > Reading::MAX || !(1..=Tick::MAX_STEP).contains(&step) {
             return Err(Refusal::SettingOutOfRange);

@@ -55,6 +55,10 @@ pub enum Piece {
 
 // What stands in a place of an `ArrayVec` that is free.
 impl Default for Piece {
+    ghost use Rattle.lines.specs.declared.line.Piece.TheVariants.{Number};
+
+    ghost is_default = { λ piece. piece ≡ Number 0 };
+
     fn default() -> Piece {
         Piece::Number(0)
     }

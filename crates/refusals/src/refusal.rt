@@ -1,5 +1,5 @@
 // Why a call was refused. A refused call has changed nothing.
-ghost use Rattle.std.specs.Prelude.{◌≡◌};
+ghost use Rattle.std.specs.Prelude.{◌≡◌, ◌==◌};
 ghost use Rattle.refusals.specs.Refusals.{number_of};
 
 // The refusals, each with the number that the listing prints; the specification says what each means.
@@ -29,7 +29,8 @@ pub enum Refusal {
 impl Refusal {
     // The number that the listing prints. By a name, since `u64::from(u8::from(refusal))` in a line would say less.
     pub fn number(self) -> u8
-        ensures { result ≡ number_of self }
+        ensures number { result ≡ number_of self }
+        ensures equality { (other : Refusal) → ⟦<Refusal as PartialEq>⟧.eq self other ≡ (result == number_of other) }
     {
         self as u8
     }

@@ -3,7 +3,7 @@
 
 ghost use Rattle.std.specs.Prelude.{◌≡◌, length, None};
 ghost use Rattle.refusals.specs.Refusals.{result_map, shown};
-ghost use Rattle.store.specs.Contents.{made_answer};
+ghost use Rattle.store.specs.Contents.{made_answer, most_places};
 
 use crate::hanging::Links;
 use keys::kind::KeyKind;
@@ -63,8 +63,9 @@ impl<'a, K: KeyKind> SearchTree<'a, K> {
     // An empty tree in these nodes, as many as its capacity: refused with 4 where there are more than 65,535.
     #[tactic(auto, using(crate::proofs::Answering::sound_made, crate::proofs::Answering::answer_made))]
     pub fn new(nodes: &'a mut [Node<K>]) -> Result<SearchTree<'a, K>, Refusal>
-        ensures { shown (result_map (⟦<SearchTree<'a, K> as VersionStore<K>>⟧.contents) result)
+        ensures made { shown (result_map (⟦<SearchTree<'a, K> as VersionStore<K>>⟧.contents) result)
             ≡ made_answer (length nodes.old) }
+        ensures most { MAX_PLACES ≡ most_places }
     {
         if nodes.len() > MAX_PLACES {
             return Err(Refusal::SettingOutOfRange);

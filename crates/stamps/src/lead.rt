@@ -24,7 +24,8 @@ impl Lead {
 
     // Refused with 4 above a day.
     pub fn new(millis: u32) -> Result<Lead, Refusal>
-        ensures { shown (result_map lead_of result) ≡ lead_setting millis }
+        ensures setting { shown (result_map lead_of result) ≡ lead_setting millis }
+        ensures most { Lead.MAX ≡ day_millis }
     {
         if millis > Lead::MAX {
             return Err(Refusal::SettingOutOfRange);

@@ -10,7 +10,7 @@ use Rattle.usage.proofs.first_note.Goals as goal
 pub returns-in_err-reading : goal.returns-in_err-reading
 returns-in_err-reading c =
     let raw = c.args.raw.0 in
-    let twenty : c.in_ok-new.field-0.millis ≡ 20 = let b = c.in_ok-new.ensures in cc in
+    let twenty : c.in_ok-new.field-0.millis ≡ 20 = let b = c.in_ok-new.ensures.setting in cc in
     let answer : ◌≡◌ {A = Result ℕ ℕ} (Err (number_of c.in_err-reading.field-0.0)) (trace_answer 0 20 raw) =
     c.in_err-reading.ensures ∙ (ap (λ m. (m 0).answer raw) c.new-clocks.ensures ∙ ap (λ z. trace_answer 0 z raw) twenty) in
     search (rules, ap (at_reading (own_answer zero_stamp)) answer)

@@ -107,6 +107,7 @@ pub fn replay<B: ClockBank + Drop, K: KeyKind, S: Listable<K> + Drop>(
     ensures replayed { let start = fresh_state (setting_numbers settings) bank store in
         OnOk result (GainsAnswers K.cmp B.meaning B.beside start run answers.old.items answers.new.items) }
     ensures stays { OnErr result (answers.new.items ≡ answers.old.items) }
+    ensures no_growth { OnErr result (vec_capacity answers.new ≡ vec_capacity answers.old) }
     ensures room { vec_len answers.old + (length run.calls.items + length run.questions.items)
         ≤ vec_capacity answers.old → IsOk result }
     ensures capacity { vec_capacity answers.old ≤ vec_capacity answers.new }

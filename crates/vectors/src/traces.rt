@@ -9,6 +9,9 @@ use trace::round::{copy_record, write_and_read};
 // A put by node 0 at raw 1000: point 7 is set to -9.000.
 const PUT: [u8; 18] = *b"\x05\x00\x00\x00\x00\x00\x00\x00\x03\xe8\x00\x00\x00\x07\xff\xff\xdc\xd8";
 
+// A send by node 0 to itself at raw 1000; the message's number is 0.
+const SEND: [u8; 15] = *b"\x02\x00\x00\x00\x00\x00\x00\x00\x03\xe8\x00\x00\x00\x00\x00";
+
 // A set-up of one node, with points.
 const SETUP: [u8; 11] = *b"\x00\x01\x00\x00\x00\x00\x00\x00\x00\x00\x00";
 
@@ -214,5 +217,32 @@ fn too_long(rt: HostRuntime) -> Result<(), Fail> {
     let bytes = losses(rt.alloc(), LONGEST + 1)?;
     let listed = listing_of(rt.alloc(), bytes.as_slice())?;
     assert_eq!(rt; listed.as_str(), "too long\n");
+    Ok(())
+}
+
+// Sixteen nodes and a day are in range; 64 messages may be under way, and there is room for 1,024 versions.
+#[test]
+fn limits(rt: HostRuntime) -> Result<(), Fail> {
+    let listed = listing_of(rt.alloc(), b"\x00\x10\x01\x05\x26\x5c\x00\x05\x26\x5c\x00")?;
+    assert_eq!(rt; listed.as_str(), "1 setup\nend 1 0\n");
+    let sends = (0..65 * SEND.len())
+        .map(|i| match i % SEND.len() {
+            14 => (i / SEND.len()) as u8,
+            place => SEND[place],
+        })
+        .collect::<Vec<u8>>(rt.alloc())?;
+    let listed = listing_behind(rt.alloc(), &sends)?;
+    assert!(rt;
+        listed
+            .as_str()
+            .ends_with("65 send 0 1000.63 drift 0\n66 refused 12\nend 65 1\n")
+    );
+    let puts = (0..1025 * PUT.len())
+        .map(|i| PUT[i % PUT.len()])
+        .collect::<Vec<u8>>(rt.alloc())?;
+    let listed = listing_behind(rt.alloc(), &puts)?;
+    assert!(rt;
+        listed.as_str().ends_with("1025 put 0 1000.1023 drift 0\n1026 refused 16\nend 1025 1\n")
+    );
     Ok(())
 }

@@ -1,5 +1,6 @@
 -- A sequence of takes gains one at its end; and highs only rise while backsteps stay, so no reading falls too far.
-use Rattle.std.proofs.Common.{◌≡◌, ℕ, zero, suc, ◌+◌, ◌<◌, ◌≤◌, max, ◌≢◌, List, [], ◌∷◌, ◌++◌, length, Ok, Err, Result, sym, refl, ap, ◌∙◌, subst, arith}
+use Rattle.std.proofs.Common.{◌≡◌, ℕ, zero, suc, ◌+◌, ◌<◌, ◌≤◌, max, ◌≢◌, List, [], ◌∷◌, ◌++◌, length, Ok, Err, Result, sym, refl}
+use Rattle.std.proofs.Common.{ap, ◌∙◌, subst, arith}
 use Rattle.std.proofs.lemmas.Bool.Decides.{nat_tests}
 use Rattle.refusals.specs.declared.refusal.Refusal.{Refusal}
 use Rattle.clocks.specs.Bank.{Meaning, IsAllowed, IsLawful, Taken, look_answer}
@@ -13,13 +14,27 @@ pub bank_run_more : {B : Type 0} (meaning : B → Meaning) (beside : Sample → 
     → length answers ≡ length samples → BankRun meaning beside old samples answers new
     → Step (meaning new) (take_of s a) (meaning next) → beside s (take_of s a).answer new next → IsLawful (meaning next)
     → BankRun meaning beside old (samples ++ s ∷ []) (answers ++ a ∷ []) next
-bank_run_more meaning beside [] [] old new next s a same run step more law =
-    (run.0, (next, subst (λ b. Step (meaning b) (take_of s a) (meaning next)) run.1 step, subst (λ b. beside s (take_of s a).answer b next) run.1 more, (law, refl)))
+bank_run_more meaning beside [] [] old new next s a same run step more law = (
+  run.0,
+  (
+    next,
+    subst (λ b. Step (meaning b) (take_of s a) (meaning next)) run.1 step,
+    subst (λ b. beside s (take_of s a).answer b next) run.1 more,
+    (law, refl),
+  ),
+)
 bank_run_more meaning beside [] (b ∷ answers) old new next s a same run step more law = absurd (omega arith)
 bank_run_more meaning beside (x ∷ samples) [] old new next s a same run step more law = absurd (omega arith)
 bank_run_more meaning beside (x ∷ samples) (b ∷ answers) old new next s a same run step more law =
-    let first = run.1 in
-    (run.0, (first.0, first.1, first.2, bank_run_more meaning beside samples answers first.0 new next s a (omega arith) first.3 step more law))
+    let first = run.1 in (
+      run.0,
+      (
+        first.0,
+        first.1,
+        first.2,
+        bank_run_more meaning beside samples answers first.0 new next s a (omega arith) first.3 step more law,
+      ),
+    )
 
 -- what it means, take by take
 pub run_of : {B : Type 0} (meaning : B → Meaning) (beside : Sample → Result ℕ ℕ → B → B → Type 0)
@@ -64,7 +79,8 @@ keeps_high (t ∷ takes) old new (suc j) r run answer =
     let rises = taken_rises t.answer old first.0 t.node (take_at takes j).node first.1.change in
     omega (arith, rises.high, rises.backstep)
 
-pub run_keeps_backsteps : (takes : List Take) (old new : Meaning) → Run old takes new → KeepsBacksteps (λ node. (old node).backstep) takes
+pub run_keeps_backsteps : (takes : List Take) (old new : Meaning) → Run old takes new
+    → KeepsBacksteps (λ node. (old node).backstep) takes
 run_keeps_backsteps [] old new run i j p q lt same e f = let z : ◌≡◌ {A = ℕ} 0 1 = cc in absurd (omega arith)
 run_keeps_backsteps (t ∷ takes) old new run zero zero p q lt same e f = absurd (omega arith)
 run_keeps_backsteps (t ∷ takes) old new run (suc i) zero p q lt same e f = absurd (omega arith)

@@ -1,5 +1,6 @@
 -- What is known between two takes of a sequence.
-use Rattle.std.proofs.Common.{◌≡◌, ℕ, ◌+◌, ◌<◌, ◌≤◌, List, [], ◌∷◌, ◌++◌, length, get_or, take, Result, sym, ap, ◌∙◌, subst, append_assoc, arith, length-append, take_all}
+use Rattle.std.proofs.Common.{◌≡◌, ℕ, ◌+◌, ◌<◌, ◌≤◌, List, [], ◌∷◌, ◌++◌, length, get_or, take, Result, sym, ap, ◌∙◌, subst}
+use Rattle.std.proofs.Common.{append_assoc, arith, length-append, take_all}
 use Rattle.std.proofs.lemmas.List.{take_more, length-take-le}
 use Rattle.refusals.specs.declared.refusal.Refusal.{Refusal}
 use Rattle.clocks.specs.Bank.{Meaning, IsLawful}
@@ -17,9 +18,12 @@ module _ {B : Type 0} (meaning : B → Meaning) (beside : Sample → Result ℕ 
     pub run : BankRun meaning beside old (take i samples) gained new
 
   -- one sample more
-  pub goes_on : (old new next : B) (samples : List Sample) (i : ℕ) (d : Sample) (before now after : List (Result Reading Refusal)) (a : Result Reading Refusal)
-      → i < length samples → Taking old new samples i before now → Step (meaning new) (take_of (get_or samples i d) a) (meaning next)
-      → beside (get_or samples i d) (take_of (get_or samples i d) a).answer new next → IsLawful (meaning next) → after ≡ now ++ a ∷ []
+  pub goes_on : (old new next : B) (samples : List Sample) (i : ℕ) (d : Sample) (before now after : List (Result Reading Refusal))
+      (a : Result Reading Refusal)
+      → i < length samples → Taking old new samples i before now
+      → Step (meaning new) (take_of (get_or samples i d) a) (meaning next)
+      → beside (get_or samples i d) (take_of (get_or samples i d) a).answer new next → IsLawful (meaning next)
+      → after ≡ now ++ a ∷ []
       → Taking old next samples (i + 1) before after
   goes_on old new next samples i d before now after a low so_far step more law gains =
       let gained : List (Result Reading Refusal) = so_far.gained in
@@ -29,16 +33,19 @@ module _ {B : Type 0} (meaning : B → Meaning) (beside : Sample → Result ℕ 
         list = gains ∙ (ap (λ z. z ++ a ∷ []) so_far.list ∙ append_assoc before gained (a ∷ []));
         each = omega (arith, length-append gained (a ∷ []), so_far.each);
         run = subst (λ z. BankRun meaning beside old z (gained ++ a ∷ []) next) (sym (take_more samples i d low))
-            (bank_run_more meaning beside (take i samples) gained old new next (get_or samples i d) a (so_far.each ∙ sym len) so_far.run step more law);
+            (bank_run_more meaning beside (take i samples) gained old new next (get_or samples i d) a (so_far.each ∙ sym len)
+            so_far.run step more law);
       }
 
   -- behind the last sample
   pub took : (old new : B) (samples : List Sample) (i : ℕ) (start before now : List (Result Reading Refusal))
-      → before ≡ start → length samples ≤ i → i ≤ length samples → Taking old new samples i before now → TookAll meaning beside old new samples start now
+      → before ≡ start → length samples ≤ i → i ≤ length samples → Taking old new samples i before now
+      → TookAll meaning beside old new samples start now
   took old new samples i start before now same all last so_far =
       let bank : BankRun meaning beside old samples so_far.gained new =
       subst (λ z. BankRun meaning beside old z so_far.gained new) (take_all i samples all) so_far.run in
-      let run : Run (meaning old) (takes_of samples so_far.gained) (meaning new) = run_of meaning beside samples so_far.gained old new bank in
+      let run : Run (meaning old) (takes_of samples so_far.gained) (meaning new) =
+      run_of meaning beside samples so_far.gained old new bank in
       record {
         gained = so_far.gained;
         list = so_far.list ∙ ap (λ z. z ++ so_far.gained) same;

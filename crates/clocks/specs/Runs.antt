@@ -35,15 +35,16 @@ Run old (t ∷ takes) new = IsLawful old × ((next : Meaning) × Step old t next
 
 -- A bank answers these samples so, one after another, which leads it from `old` to `new`: each take changes what the bank
 -- means, and does beside that what the kind of bank says of one take.
-abbrev pub BankRun : {B : Type 0} → (B → Meaning) → (Sample → Result ℕ ℕ → B → B → Type 0) → B → List Sample → List (Result Reading Refusal) → B → Type 0
+abbrev pub BankRun : {B : Type 0} → (B → Meaning) → (Sample → Result ℕ ℕ → B → B → Type 0) → B → List Sample
+    → List (Result Reading Refusal) → B → Type 0
 BankRun meaning beside old [] answers new = IsLawful (meaning old) × (new ≡ old)
 BankRun meaning beside old (s ∷ samples) [] new = IsLawful (meaning old) × (new ≡ old)
 BankRun {B} meaning beside old (s ∷ samples) (a ∷ answers) new =
     IsLawful (meaning old)
     × ((next : B)
-      × Step (meaning old) (take_of s a) (meaning next)
-      × beside s (take_of s a).answer old next
-      × BankRun meaning beside next samples answers new)
+    × Step (meaning old) (take_of s a) (meaning next)
+    × beside s (take_of s a).answer old next
+    × BankRun meaning beside next samples answers new)
 
 -- the take at a place, counted from 0; there is no reading behind the last
 abbrev pub take_at : List Take → ℕ → Take

@@ -14,7 +14,8 @@ max_count = 4294967295
 abbrev pub tick_answer : Tick → ℕ → ℕ → Result ℕ ℕ
 tick_answer tick high raw =
     let millis : ℕ = tick.base + raw * tick.step in
-    (if nat_le raw max_count then (if is_reading millis then (if nat_lt millis high then Err 9 else Ok millis) else Err 8) else Err 8)
+    (if nat_le raw max_count then (if is_reading millis then (if nat_lt millis high then Err 9 else Ok millis) else Err 8)
+    else Err 8)
 
 abbrev pub tick_clock : Tick → ℕ → Clock
 tick_clock tick high = record { high = high; backstep = 0; answer = tick_answer tick high }

@@ -1,11 +1,13 @@
 -- What single steps say of an event's stamp, all that happened before it says too: its time is the largest reading, its counter
 -- the length of the longest chain, and it is later.
-use Rattle.std.proofs.Common.{◌≡◌, ℕ, suc, ◌+◌, ◌<◌, ◌≤◌, ◌⊎◌, inl, inr, List, [], ◌∷◌, ◌++◌, length, refl, sym, ◌∙◌, subst, arith}
+use Rattle.std.proofs.Common.{◌≡◌, ℕ, suc, ◌+◌, ◌<◌, ◌≤◌, ◌⊎◌, inl, inr, List, [], ◌∷◌, ◌++◌, length, refl, sym, ◌∙◌, subst}
+use Rattle.std.proofs.Common.{arith}
 use Rattle.std.proofs.lemmas.List.{length_push}
 use Rattle.stamps.specs.Stamp.{Timestamp}
 use Rattle.store.specs.Newest.{IsIn}
 use Rattle.history.specs.Events.{Event, event_at}
-use Rattle.history.specs.Before.{HappenedBefore, InMoreSteps, InOneStep, IsChain, IsChainTo, IsLargestReading, IsLongestChain, IsStep, IsUpTo}
+use Rattle.history.specs.Before.{HappenedBefore, InMoreSteps, InOneStep, IsChain, IsChainTo, IsLargestReading, IsLongestChain}
+use Rattle.history.specs.Before.{IsStep, IsUpTo}
 use Rattle.history.proofs.Lists.{by_earlier, each_push}
 use Rattle.history.proofs.Places.{before_less, step_less, step_to}
 
@@ -37,7 +39,8 @@ pub record Follows {K : Type 0} (events : List (Event K)) (j : ℕ) : Type 0 whe
 
 module _ {K : Type 0} (events : List (Event K)) where
   -- a chain goes on with an event that happened after all of it
-  chain_end : (i : ℕ) (chain : List ℕ) → IsChain events chain → ((k : ℕ) → IsIn k chain → HappenedBefore events k i) → IsChain events (chain ++ i ∷ [])
+  chain_end : (i : ℕ) (chain : List ℕ) → IsChain events chain → ((k : ℕ) → IsIn k chain → HappenedBefore events k i)
+      → IsChain events (chain ++ i ∷ [])
   chain_end i [] is all = tt
   chain_end i (j ∷ []) is all = (all j (inl refl), tt)
   chain_end i (j ∷ k ∷ chain) is all = (is.0, chain_end i (k ∷ chain) is.1 (λ l there. all l (inr there)))
@@ -49,14 +52,16 @@ module _ {K : Type 0} (events : List (Event K)) where
     later {i} {j} (InMoreSteps {j = k} before step) = later_through (later before) ((follows j (step_to step)).later k step)
 
     -- the time is at least each reading up to it
-    none_larger : (j : ℕ) → j < length events → (i : ℕ) → IsUpTo events i j → (event_at events i).reading ≤ (event_at events j).stamp.time
+    none_larger : (j : ℕ) → j < length events → (i : ℕ) → IsUpTo events i j
+        → (event_at events i).reading ≤ (event_at events j).stamp.time
     none_larger j inside i (inl same) = rw same (follows j inside).own
     none_larger j inside i (inr before) =
         let less = before_less before in
         omega (arith, (later before).time, (follows i (omega (arith, less, inside))).own)
 
     -- and is one of them
-    has_reading : (j : ℕ) → j < length events → (i : ℕ) × IsUpTo events i j × ((event_at events i).reading ≡ (event_at events j).stamp.time)
+    has_reading : (j : ℕ) → j < length events
+        → (i : ℕ) × IsUpTo events i j × ((event_at events i).reading ≡ (event_at events j).stamp.time)
     has_reading = by_earlier _ (λ j earlier inside. elim (follows j inside).time [
       | inl own ↦ (j, inl refl, own)
       | inr from ↦
@@ -75,9 +80,14 @@ module _ {K : Type 0} (events : List (Event K)) where
     largest j inside = record { one = has_reading j inside; none_larger = none_larger j inside }
 
     -- some chain is as long as the counter
-    has_chain : (j : ℕ) → j < length events → (chain : List ℕ) × IsChainTo events j chain × (length chain ≡ (event_at events j).stamp.counter)
+    has_chain : (j : ℕ) → j < length events
+        → (chain : List ℕ) × IsChainTo events j chain × (length chain ≡ (event_at events j).stamp.counter)
     has_chain = by_earlier _ (λ j earlier inside. elim (follows j inside).counter [
-      | inl none ↦ ([], record { is_chain = tt; before = λ i there. elim there [ ]; of_its_time = λ i there. elim there [ ] }, sym none)
+      | inl none ↦ (
+        [],
+        record { is_chain = tt; before = λ i there. elim there [ ]; of_its_time = λ i there. elim there [ ] },
+        sym none,
+      )
       | inr from ↦
           let less = step_less from.1 in
           let found = earlier from.0 less (omega (arith, less, inside)) in (
@@ -92,7 +102,8 @@ module _ {K : Type 0} (events : List (Event K)) where
     ])
 
     -- counters rise along a chain,
-    counters_rise : (j i : ℕ) (chain : List ℕ) → IsChainTo events j (i ∷ chain) → (event_at events i).stamp.counter + length (i ∷ chain) ≤ (event_at events j).stamp.counter
+    counters_rise : (j i : ℕ) (chain : List ℕ) → IsChainTo events j (i ∷ chain)
+        → (event_at events i).stamp.counter + length (i ∷ chain) ≤ (event_at events j).stamp.counter
     counters_rise j i [] is = omega (arith, (later (is.before i (inl refl))).counter (is.of_its_time i (inl refl)))
     counters_rise j i (k ∷ chain) is =
         let rest = counters_rise j k chain (record {

@@ -4,7 +4,8 @@ use Rattle.std.specs.Prelude.{take}
 use Rattle.std.specs.declared.cmp.Ordering.{Ordering}
 use Rattle.std.proofs.lemmas.List.Elements.{filter_map-append}
 use Rattle.history.specs.Events.{event_at}
-use Rattle.history.specs.History.{Closed, Cut, Entered, Entry, IsHistory, MayBeWritten, MayEnter, Read, Setup, entry_at, event_of, events_of}
+use Rattle.history.specs.History.{Closed, Cut, Entered, Entry, IsHistory, MayBeWritten, MayEnter, Read, Setup, entry_at, event_of}
+use Rattle.history.specs.History.{events_of}
 use Rattle.history.proofs.Places.{AreEntered}
 
 module _ {K : Type 0} where
@@ -34,13 +35,20 @@ module _ {K : Type 0} where
   has_entry (Entered e ∷ history) zero inside = record { place = 0; inside = omega arith; is = refl; before = refl }
   has_entry (Entered e ∷ history) (suc j) inside =
       let more = has_entry history j (omega (arith, inside)) in
-      record { place = suc more.place; inside = omega (arith, more.inside); is = more.is; before = ap (λ events. e ∷ events) more.before }
+      record {
+        place = suc more.place;
+        inside = omega (arith, more.inside);
+        is = more.is;
+        before =
+            ap (λ events. e ∷ events) more.before;
+      }
   has_entry (Read key stamp answer ∷ history) j inside = has_entry_behind _ (λ es. refl) history j (has_entry history j inside)
   has_entry (Cut stamp count rows ∷ history) j inside = has_entry_behind _ (λ es. refl) history j (has_entry history j inside)
   has_entry (Closed ∷ history) j inside = has_entry_behind _ (λ es. refl) history j (has_entry history j inside)
 
   -- so that it was entered behind the events before it
-  pub are_entered : (order : K → K → Ordering) (setup : Setup) (history : List (Entry K)) → IsHistory order setup history → AreEntered setup (events_of history)
+  pub are_entered : (order : K → K → Ordering) (setup : Setup) (history : List (Entry K)) → IsHistory order setup history
+      → AreEntered setup (events_of history)
   are_entered order setup history written j inside =
       let entry = has_entry history j inside in
       let may = subst (MayBeWritten order setup (take entry.place history)) entry.is (written entry.place entry.inside) in

@@ -1,5 +1,6 @@
 -- The last event of a node.
-use Rattle.std.proofs.Common.{◌≡◌, ℕ, zero, suc, ◌<◌, ◌≤◌, ◌⊎◌, inl, inr, Bool, true, false, List, [], ◌∷◌, ◌++◌, Some, Option, refl, sym, ap, ◌∙◌, arith}
+use Rattle.std.proofs.Common.{◌≡◌, ℕ, zero, suc, ◌<◌, ◌≤◌, ◌⊎◌, inl, inr, Bool, true, false, List, [], ◌∷◌, ◌++◌, Some, Option}
+use Rattle.std.proofs.Common.{refl, sym, ap, ◌∙◌, arith}
 use Rattle.std.specs.Prelude.{◌≢◌, ◌==◌, if◌then◌else◌, length, take}
 use Rattle.std.specs.List.{last_or}
 use Rattle.std.proofs.lemmas.Bool.Decides.{nat_tests}
@@ -39,7 +40,8 @@ module _ {K : Type 0} (events : List (Event K)) (node : ℕ) where
   HasLast n = ((i : ℕ) × IsLastOf n i) ⊎ HasNone n
 
   has_last_by : (n : ℕ) (same : Bool) → ((event_at events n).node == node) ≡ same
-      → last_stamp (take (suc n) events) node ≡ (if same then (event_at events n).stamp else last_stamp (take n events) node) → HasLast n → HasLast (suc n)
+      → last_stamp (take (suc n) events) node ≡ (if same then (event_at events n).stamp else last_stamp (take n events) node)
+      → HasLast n → HasLast (suc n)
   has_last_by n true is stamp found = inl (
     n,
     record {
@@ -69,4 +71,5 @@ module _ {K : Type 0} (events : List (Event K)) (node : ℕ) where
   has_last zero within = inr (record { none = λ k less. absurd (omega arith); stamp = refl })
   has_last (suc n) within =
       let more = take-suc events n no_event within in
-      has_last_by n _ refl (ap (λ es. last_stamp es node) more ∙ last_stamp-push (take n events) (event_at events n) node _ refl) (has_last n (omega (arith, within)))
+      has_last_by n _ refl (ap (λ es. last_stamp es node) more ∙ last_stamp-push (take n events) (event_at events n) node _ refl)
+      (has_last n (omega (arith, within)))

@@ -1,5 +1,6 @@
 -- What is in a list, and induction on numbers.
-use Rattle.std.proofs.Common.{◌≡◌, ℕ, zero, suc, ◌<◌, ◌⊎◌, inl, inr, Bool, false, List, [], ◌∷◌, ◌++◌, get_or, length, map, refl, sym, subst, arith}
+use Rattle.std.proofs.Common.{◌≡◌, ℕ, zero, suc, ◌<◌, ◌⊎◌, inl, inr, Bool, false, List, [], ◌∷◌, ◌++◌, get_or, length, map, refl}
+use Rattle.std.proofs.Common.{sym, subst, arith}
 use Rattle.std.specs.Prelude.{take}
 use Rattle.std.specs.List.{list_any}
 use Rattle.std.proofs.lemmas.Bool.{cases_lt, or_parts}
@@ -12,7 +13,8 @@ in_append x [] ys is_in = grind arith
 in_append x (z ∷ xs) ys is_in = let more = in_append x xs ys in grind arith
 
 -- what holds of each in a list, and of y, holds of each in the list with y at its end
-pub each_push : {X : Type 0} (P : X → Type 0) (y : X) (xs : List X) → ((x : X) → IsIn x xs → P x) → P y → (x : X) → IsIn x (xs ++ y ∷ []) → P x
+pub each_push : {X : Type 0} (P : X → Type 0) (y : X) (xs : List X) → ((x : X) → IsIn x xs → P x) → P y → (x : X)
+    → IsIn x (xs ++ y ∷ []) → P x
 each_push P y [] each here x (inl is) = subst P (sym is) here
 each_push P y [] each here x (inr there) = elim there [ ]
 each_push P y (z ∷ xs) each here x (inl is) = each x (inl is)
@@ -37,24 +39,28 @@ none_passes test x (y ∷ ys) none (inl here) = rw here (or_parts (test y) (list
 none_passes test x (y ∷ ys) none (inr there) = none_passes test x ys (or_parts (test y) (list_any test ys) none).1 there
 
 -- Where each of a list may stand behind those before it, and x behind all, this holds with x at the end too. (d is what stands nowhere.)
-pub one_more : {X : Type 0} (May : List X → X → Type 0) (d : X) (xs : List X) (x : X) → ((j : ℕ) → j < length xs → May (take j xs) (get_or xs j d)) → May xs x
+pub one_more : {X : Type 0} (May : List X → X → Type 0) (d : X) (xs : List X) (x : X)
+    → ((j : ℕ) → j < length xs → May (take j xs) (get_or xs j d)) → May xs x
     → (j : ℕ) → j < length (xs ++ x ∷ []) → May (take j (xs ++ x ∷ [])) (get_or (xs ++ x ∷ []) j d)
 one_more May d xs x each may j inside = elim (cases_lt j (length xs)) [
-  | inl earlier ↦ rw (take-append-le j xs (x ∷ []) (omega (arith, earlier)), get_or_append_left xs (x ∷ []) d j earlier) (each j earlier)
+  | inl earlier ↦ rw (take-append-le j xs (x ∷ []) (omega (arith, earlier)), get_or_append_left xs (x ∷ []) d j earlier)
+      (each j earlier)
   | inr last ↦
       let is : length xs ≡ j = omega (arith, last, inside, length-append xs (x ∷ [])) in
       rw (take_at xs (x ∷ []) j is, get_or_push xs x d j is) may
 ]
 
 -- what holds of f x for each x in a list holds of each y in the list that f makes of it
-pub of_map : {X Y : Type 0} (P : Y → Type 0) (f : X → Y) (xs : List X) → ((x : X) → IsIn x xs → P (f x)) → (y : Y) → IsIn y (map f xs) → P y
+pub of_map : {X Y : Type 0} (P : Y → Type 0) (f : X → Y) (xs : List X) → ((x : X) → IsIn x xs → P (f x)) → (y : Y)
+    → IsIn y (map f xs) → P y
 of_map P f [] each y is_in = elim is_in [ ]
 of_map P f (x ∷ xs) each y (inl here) = subst P (sym here) (each x (inl refl))
 of_map P f (x ∷ xs) each y (inr there) = of_map P f xs (λ z is_in. each z (inr is_in)) y there
 
 -- what holds of the numbers below n, and of n, holds of those below the next
 pub up_to_next : (P : ℕ → Type 0) (n : ℕ) → ((k : ℕ) → k < n → P k) → P n → (k : ℕ) → k < suc n → P k
-up_to_next P n below here k less = elim (cases_lt k n) [ inl earlier ↦ below k earlier | inr at ↦ subst P (omega (arith, at, less)) here ]
+up_to_next P n below here k less =
+    elim (cases_lt k n) [ inl earlier ↦ below k earlier | inr at ↦ subst P (omega (arith, at, less)) here ]
 
 -- what holds of each number if it holds of all smaller ones holds of all: of those below any n, and so of each
 all_below : (P : ℕ → Type 0) → ((j : ℕ) → ((i : ℕ) → i < j → P i) → P j) → (n k : ℕ) → k < n → P k

@@ -1,5 +1,6 @@
 -- Puts have exactly one answer and one page at each stamp, since a store that they are put into, one after another, has them in order.
-use Rattle.std.proofs.Common.{◌≡◌, ℕ, suc, ◌<◌, ◌⊎◌, ◌↔◌, inl, inr, List, [], ◌∷◌, Some, None, Option, refl, sym, ◌∙◌, subst, arith}
+use Rattle.std.proofs.Common.{◌≡◌, ℕ, suc, ◌<◌, ◌⊎◌, ◌↔◌, inl, inr, List, [], ◌∷◌, Some, None, Option, refl, sym, ◌∙◌, subst}
+use Rattle.std.proofs.Common.{arith}
 use Rattle.std.specs.Cmp.{IsTotalOrder}
 use Rattle.std.specs.declared.cmp.Ordering.{Ordering}
 use Rattle.std.specs.List.{cons_option, fold}
@@ -38,7 +39,8 @@ module _ {K : Type 0} where
 
     onto_same : (u : Version K) (vs ws : List (Version K)) → (IsIn u vs ⊎ IsIn u ws) ↔ IsIn u (recorded_onto ws vs)
     onto_same u [] ws = (λ is_in. grind arith, λ is_in. inr is_in)
-    onto_same u (v ∷ vs) ws = let more = onto_same u vs (with_version order v ws) in let first = in_with_version order u v ws in (λ is_in. grind arith, λ is_in. grind arith)
+    onto_same u (v ∷ vs) ws = let more = onto_same u vs (with_version order v ws) in let first = in_with_version order u v ws in
+        (λ is_in. grind arith, λ is_in. grind arith)
 
     -- what is recorded is what was put in
     pub recorded_there : (v : Version K) (vs : List (Version K)) → IsIn v vs → IsIn v (recorded vs)
@@ -51,11 +53,13 @@ module _ {K : Type 0} where
     recorded_same stamp vs = record { there = λ v below. recorded_back v vs; back = λ v below. recorded_there v vs }
 
     module _ (total : IsTotalOrder order) where
-      onto_sorted : (vs ws : List (Version K)) → IsSorted order ws → AreRising vs → ((w : Version K) → IsIn w ws → IsEarlier w vs) → IsSorted order (recorded_onto ws vs)
+      onto_sorted : (vs ws : List (Version K)) → IsSorted order ws → AreRising vs → ((w : Version K) → IsIn w ws → IsEarlier w vs)
+          → IsSorted order (recorded_onto ws vs)
       onto_sorted [] ws sorted rising before = sorted
       onto_sorted (v ∷ vs) ws sorted rising before =
           let new = no_id order v ws (λ w is_in same. before w is_in v (inl refl) (sym same)) in
-          onto_sorted vs (with_version order v ws) (sorted_with_version order total v ws sorted new) rising.1 (λ w is_in. elim ((in_with_version order w v ws).1 is_in) [
+          onto_sorted vs (with_version order v ws) (sorted_with_version order total v ws sorted new) rising.1
+          (λ w is_in. elim ((in_with_version order w v ws).1 is_in) [
             | inl here ↦ subst (λ u. IsEarlier u vs) (sym here) rising.0
             | inr there ↦ λ u behind. before w there u (inr behind)
           ])
@@ -85,18 +89,23 @@ module _ {K : Type 0} where
       let more = puts_rise events (λ i j before inside. rises (suc i) (suc j) (omega (arith, before)) (omega (arith, inside))) in
       rise_by e events (version_of e e.what) refl rises more
 
-  module _ (order : K → K → Ordering) (total : IsTotalOrder order) (law : IsKeyOrder order) (events : List (Event K)) (rises : NodesRise events) where
+  module _ (order : K → K → Ordering) (total : IsTotalOrder order) (law : IsKeyOrder order) (events : List (Event K))
+      (rises : NodesRise events) where
     pub sorted : IsSorted order (recorded order (puts events))
     sorted = recorded_sorted order total (puts events) (puts_rise events rises)
 
     pub one_answer : (key : K) (stamp : ℕ) → (answer : Option (Version K)) × IsOnlyAnswer (puts events) key stamp answer
     one_answer key stamp =
         let alike = answers_alike (recorded_same order stamp (puts events)) key in
-        let found = only_answer order total law (recorded order (puts events)) key stamp sorted _ refl in
-        (newest order (recorded order (puts events)) key stamp, record { answers = (alike _).0 found.answers; only = λ other is. found.only other ((alike other).1 is) })
+        let found = only_answer order total law (recorded order (puts events)) key stamp sorted _ refl in (
+          newest order (recorded order (puts events)) key stamp,
+          record { answers = (alike _).0 found.answers; only = λ other is. found.only other ((alike other).1 is) },
+        )
 
     pub one_page : (stamp : ℕ) → (rows : List (Version K)) × IsOnlyPage order (puts events) stamp rows
     one_page stamp =
         let alike = pages_alike order (recorded_same order stamp (puts events)) in
-        let found = only_page order total law (recorded order (puts events)) stamp sorted in
-        (page order (recorded order (puts events)) stamp, record { is = (alike _).0 found.is; only = λ other is. found.only other ((alike other).1 is) })
+        let found = only_page order total law (recorded order (puts events)) stamp sorted in (
+          page order (recorded order (puts events)) stamp,
+          record { is = (alike _).0 found.is; only = λ other is. found.only other ((alike other).1 is) },
+        )

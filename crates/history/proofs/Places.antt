@@ -27,8 +27,10 @@ module _ {K : Type 0} where
   pub inside_take : (events : List (Event K)) (n place : ℕ) → place < n → n ≤ length events → place < length (take n events)
   inside_take events n place before within = omega (arith, before, length-take-le n events within)
 
-  pub in_take : (events : List (Event K)) (n place : ℕ) → place < n → n ≤ length events → IsIn (event_at events place) (take n events)
-  in_take events n place before within = rw (← at_take events n place before) (at_in no_event (take n events) place (inside_take events n place before within))
+  pub in_take : (events : List (Event K)) (n place : ℕ) → place < n → n ≤ length events
+      → IsIn (event_at events place) (take n events)
+  in_take events n place before within =
+      rw (← at_take events n place before) (at_in no_event (take n events) place (inside_take events n place before within))
 
 module _ {K : Type 0} {events : List (Event K)} where
   -- a number has one last send
@@ -46,7 +48,8 @@ module _ {K : Type 0} {events : List (Event K)} where
 
   pub step_less : {i j : ℕ} → IsStep events i j → i < j
   step_less (OnOneNode before inside same) = before
-  step_less {j} (ByMessage number inside receipt last) = omega (arith, last.inside, inside, length-take-le j events (omega (arith, inside)))
+  step_less {j} (ByMessage number inside receipt last) =
+      omega (arith, last.inside, inside, length-take-le j events (omega (arith, inside)))
 
   pub before_to : {i j : ℕ} → HappenedBefore events i j → j < length events
   before_to (InOneStep step) = step_to step

@@ -6,10 +6,17 @@ use Rattle.history.proofs.Puts.{in_puts, put_at}
 use Rattle.history.proofs.SameVersions.{AreSameUpTo}
 use Rattle.history.proofs.StampsMoved.{AreKept}
 
-module _ {K : Type 0} {one other : List (Event K)} {to from : ℕ → ℕ} (moved : IsReordering one other to from) (stamps : AreKept one other to (λ e. e.stamp)) where
+module _ {K : Type 0} {one other : List (Event K)} {to from : ℕ → ℕ} (moved : IsReordering one other to from)
+    (stamps : AreKept one other to (λ e. e.stamp)) where
   -- an event is the same at its other place, so that it puts the same version
   event_moved : (i : ℕ) → i < length one → event_at other (to i) ≡ event_at one i
-  event_moved i inside = λ k. record { node = moved.node i inside k; reading = moved.reading i inside k; stamp = stamps i inside k; what = moved.what i inside k }
+  event_moved i inside = λ k. record {
+    node = moved.node i inside k;
+    reading = moved.reading i inside k;
+    stamp = stamps i inside k;
+    what =
+        moved.what i inside k;
+  }
 
   pub puts_same : (stamp : ℕ) → AreSameUpTo stamp (puts one) (puts other)
   puts_same stamp = record {

@@ -24,14 +24,16 @@ module _ {K : Type 0} {stamp : ℕ} {vs ws : List (Version K)} where
   }
 
   -- what is answered of the one is answered of the other
-  answer_carries : AreSameUpTo stamp vs ws → (key : K) (answer : Option (Version K)) → IsReadAnswer vs key stamp answer → IsReadAnswer ws key stamp answer
+  answer_carries : AreSameUpTo stamp vs ws → (key : K) (answer : Option (Version K)) → IsReadAnswer vs key stamp answer
+      → IsReadAnswer ws key stamp answer
   answer_carries same key (Some v) newest = newest_carries same key v newest
   answer_carries same key None none = λ w is_in of_key. elim (cases_lt stamp w.stamp) [
     | inl above ↦ above
     | inr below ↦ none w (same.back w below is_in) of_key
   ]
 
-  page_carries : (order : K → K → Ordering) → AreSameUpTo stamp vs ws → (rows : List (Version K)) → IsPage order vs stamp rows → IsPage order ws stamp rows
+  page_carries : (order : K → K → Ordering) → AreSameUpTo stamp vs ws → (rows : List (Version K)) → IsPage order vs stamp rows
+      → IsPage order ws stamp rows
   page_carries order same rows page = record {
     ascending = page.ascending;
     newest = λ row is_in. newest_carries same row.key row (page.newest row is_in);
@@ -39,8 +41,10 @@ module _ {K : Type 0} {stamp : ℕ} {vs ws : List (Version K)} where
   }
 
 module _ {K : Type 0} {stamp : ℕ} {vs ws : List (Version K)} where
-  pub answers_alike : AreSameUpTo stamp vs ws → (key : K) (answer : Option (Version K)) → IsReadAnswer vs key stamp answer ↔ IsReadAnswer ws key stamp answer
+  pub answers_alike : AreSameUpTo stamp vs ws → (key : K) (answer : Option (Version K))
+      → IsReadAnswer vs key stamp answer ↔ IsReadAnswer ws key stamp answer
   answers_alike same key answer = (answer_carries same key answer, answer_carries (same_back same) key answer)
 
-  pub pages_alike : (order : K → K → Ordering) → AreSameUpTo stamp vs ws → (rows : List (Version K)) → IsPage order vs stamp rows ↔ IsPage order ws stamp rows
+  pub pages_alike : (order : K → K → Ordering) → AreSameUpTo stamp vs ws → (rows : List (Version K))
+      → IsPage order vs stamp rows ↔ IsPage order ws stamp rows
   pages_alike order same rows = (page_carries order same rows, page_carries order (same_back same) rows)

@@ -37,7 +37,8 @@ module _ (last : Timestamp) (reading : ℕ) where
     after_sent : IsLater sent (receipt_stamp last sent reading)
     after_sent = record { time = omega arith; counter = λ same. grind (arith, nat_tests) }
 
-    receipt_from : StartsAt reading (receipt_stamp last sent reading) ⊎ (GoesOn last (receipt_stamp last sent reading) ⊎ GoesOn sent (receipt_stamp last sent reading))
+    receipt_from : StartsAt reading (receipt_stamp last sent reading)
+        ⊎ (GoesOn last (receipt_stamp last sent reading) ⊎ GoesOn sent (receipt_stamp last sent reading))
     receipt_from = grind (arith, nat_tests)
 
 -- the last stamp of event j's node before it
@@ -50,24 +51,32 @@ module _ {K : Type 0} (lead : ℕ) (events : List (Event K)) (j : ℕ) where
   record IsRuled : Type 0 where
     not_early : (event_at events j).reading ≤ (event_at events j).stamp.time
     after_last : IsLater (its_last events j) (event_at events j).stamp
-    after_sent : (number i : ℕ) → (event_at events j).what ≡ Receipt number → IsLastSend (take j events) number i → IsLater (event_at events i).stamp (event_at events j).stamp
+    after_sent : (number i : ℕ) → (event_at events j).what ≡ Receipt number → IsLastSend (take j events) number i
+        → IsLater (event_at events i).stamp (event_at events j).stamp
     from : StartsAt (event_at events j).reading (event_at events j).stamp
         ⊎ (GoesOn (its_last events j) (event_at events j).stamp
-        ⊎ ((i : ℕ) × IsStep events i j × GoesOn (event_at events i).stamp (event_at events j).stamp × ((event_at events j).stamp.time ≤ (event_at events j).reading + lead)))
+        ⊎ ((i : ℕ) × IsStep events i j × GoesOn (event_at events i).stamp (event_at events j).stamp
+        × ((event_at events j).stamp.time ≤ (event_at events j).reading + lead)))
 
-  own_is_ruled : ((number : ℕ) → (event_at events j).what ≡ Receipt number → ⊥) → (event_at events j).stamp ≡ own_stamp (its_last events j) (event_at events j).reading → IsRuled
+  own_is_ruled : ((number : ℕ) → (event_at events j).what ≡ Receipt number → ⊥)
+      → (event_at events j).stamp ≡ own_stamp (its_last events j) (event_at events j).reading → IsRuled
   own_is_ruled no_receipt is = record {
     not_early = rw is (omega arith);
     after_last = rw is (after_own (its_last events j) (event_at events j).reading);
     after_sent = λ number i receipt last. absurd (no_receipt number receipt);
-    from = elim (own_from (its_last events j) (event_at events j).reading) [ inl start ↦ inl (rw is start) | inr last ↦ inr (inl (rw is last)) ];
+    from = elim (own_from (its_last events j) (event_at events j).reading)
+        [ inl start ↦ inl (rw is start) | inr last ↦ inr (inl (rw is last)) ];
   }
 
-  receipt_is_ruled : (number : ℕ) → j < length events → (event_at events j).what ≡ Receipt number → IsReceived lead (take j events) (event_at events j) number → IsRuled
+  receipt_is_ruled : (number : ℕ) → j < length events → (event_at events j).what ≡ Receipt number
+      → IsReceived lead (take j events) (event_at events j) number → IsRuled
   receipt_is_ruled number inside receipt stamped =
       let same = at_take events j stamped.send (omega (arith, stamped.last_send.inside, length-take-le j events)) in
-      let is : (event_at events j).stamp ≡ receipt_stamp (its_last events j) (event_at events stamped.send).stamp (event_at events j).reading = rw (← same) stamped.by_rule in
-      let ahead : (event_at events stamped.send).stamp.time ≤ (event_at events j).reading + lead = rw (← same) stamped.not_ahead in
+      let is : (event_at events j).stamp
+      ≡ receipt_stamp (its_last events j) (event_at events stamped.send).stamp (event_at events j).reading =
+      rw (← same) stamped.by_rule in
+      let ahead : (event_at events stamped.send).stamp.time ≤ (event_at events j).reading + lead =
+      rw (← same) stamped.not_ahead in
       record {
         not_early = rw is (omega arith);
         after_last = rw is (after_last (its_last events j) (event_at events j).reading (event_at events stamped.send).stamp);
@@ -78,11 +87,17 @@ module _ {K : Type 0} (lead : ℕ) (events : List (Event K)) (j : ℕ) where
         from = elim (receipt_from (its_last events j) (event_at events j).reading (event_at events stamped.send).stamp) [
           | inl start ↦ inl (rw is start)
           | inr (inl last) ↦ inr (inl (rw is last))
-          | inr (inr sent) ↦ inr (inr (stamped.send, ByMessage number inside receipt stamped.last_send, rw is sent, rw is (omega (arith, ahead, sent.0))))
+          | inr (inr sent) ↦ inr (inr (
+            stamped.send,
+            ByMessage number inside receipt stamped.last_send,
+            rw is sent,
+            rw is (omega (arith, ahead, sent.0)),
+          ))
         ];
       }
 
-  is_ruled_by : j < length events → (what : What K) → (event_at events j).what ≡ what → IsStamped lead (take j events) (event_at events j) what → IsRuled
+  is_ruled_by : j < length events → (what : What K) → (event_at events j).what ≡ what
+      → IsStamped lead (take j events) (event_at events j) what → IsRuled
   is_ruled_by inside Note is stamped = own_is_ruled (λ number receipt. cc (is, receipt)) stamped
   is_ruled_by inside (Send n) is stamped = own_is_ruled (λ number receipt. cc (is, receipt)) stamped
   is_ruled_by inside (Put key value) is stamped = own_is_ruled (λ number receipt. cc (is, receipt)) stamped
@@ -101,13 +116,16 @@ module _ {K : Type 0} {setup : Setup} {events : List (Event K)} (entered : AreEn
   last_before j inside = has_last events (event_at events j).node j (omega (arith, inside))
 
   -- each stamp is later than all those of its node before it
-  later_on_node : (j : ℕ) → j < length events → (i : ℕ) → i < j → (event_at events i).node ≡ (event_at events j).node → IsLater (event_at events i).stamp (event_at events j).stamp
+  later_on_node : (j : ℕ) → j < length events → (i : ℕ) → i < j → (event_at events i).node ≡ (event_at events j).node
+      → IsLater (event_at events i).stamp (event_at events j).stamp
   later_on_node = by_earlier _ (λ j earlier inside i less same. elim (last_before j inside) [
     | inl last ↦
-        let step : IsLater (event_at events last.0).stamp (event_at events j).stamp = rw last.1.stamp (is_ruled j inside).after_last in
+        let step : IsLater (event_at events last.0).stamp (event_at events j).stamp =
+        rw last.1.stamp (is_ruled j inside).after_last in
         elim (cases_order i last.0) [
           | inl at_last ↦ rw at_last step
-          | inr (inl before) ↦ later_through (earlier last.0 last.1.before (omega (arith, last.1.before, inside)) i before (same ∙ sym last.1.of_node)) step
+          | inr (inl before) ↦ later_through
+              (earlier last.0 last.1.before (omega (arith, last.1.before, inside)) i before (same ∙ sym last.1.of_node)) step
           | inr (inr behind) ↦ absurd (last.1.none_behind i less behind same)
         ]
     | inr none ↦ absurd (none.none i less same)
@@ -170,12 +188,19 @@ module _ {K : Type 0} {setup : Setup} {events : List (Event K)} (entered : AreEn
   ])
 
   -- and readings fall back by the backstep at most
-  pub ahead : (j : ℕ) → j < length events → (event_at events j).stamp.time ≤ (event_at events j).reading + setup.lead + setup.backstep (event_at events j).node
+  pub ahead : (j : ℕ) → j < length events
+      → (event_at events j).stamp.time ≤ (event_at events j).reading + setup.lead + setup.backstep (event_at events j).node
   ahead j inside =
       let is = near j inside in
       elim (cases_lt is.place j) [
-        | inl less ↦ omega (arith, is.near, (entered j inside).clock (event_at events is.place) (in_take events j is.place less (omega (arith, inside))) is.of_node)
-        | inr at ↦ let same : is.place ≡ j = omega (arith, at, is.not_behind) in omega (arith, is.near, ap (λ k. (event_at events k).reading) same)
+        | inl less ↦ omega (
+          arith,
+          is.near,
+          (entered j inside).clock (event_at events is.place) (in_take events j is.place less (omega (arith, inside)))
+              is.of_node,
+        )
+        | inr at ↦ let same : is.place ≡ j = omega (arith, at, is.not_behind) in
+            omega (arith, is.near, ap (λ k. (event_at events k).reading) same)
       ]
 
   -- later stamps have higher codes

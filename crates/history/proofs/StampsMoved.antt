@@ -2,7 +2,8 @@
 use Rattle.std.proofs.Common.{◌≡◌, ℕ, ◌<◌, ◌≤◌, ◌⊎◌, inl, inr, List, [], ◌∷◌, length, map, take, sym, ap, ◌∙◌, subst, arith}
 use Rattle.std.proofs.lemmas.Bool.{cases_order}
 use Rattle.std.proofs.lemmas.List.{length-map, length-take-le}
-use Rattle.history.specs.Before.{ByMessage, HappenedBefore, InMoreSteps, InOneStep, IsChain, IsChainTo, IsLargestReading, IsLastSend, IsLongestChain, IsStep, IsUpTo, OnOneNode}
+use Rattle.history.specs.Before.{ByMessage, HappenedBefore, InMoreSteps, InOneStep, IsChain, IsChainTo, IsLargestReading}
+use Rattle.history.specs.Before.{IsLastSend, IsLongestChain, IsStep, IsUpTo, OnOneNode}
 use Rattle.history.specs.History.{IsReceived, IsStamped, Setup}
 use Rattle.history.specs.Events.{Event, Receipt, Send, event_at}
 use Rattle.history.proofs.Lists.{of_map}
@@ -19,15 +20,18 @@ module _ {K : Type 0} (events : List (Event K)) where
   AreCounted = (j : ℕ) → j < length events → IsLongestChain events j (event_at events j).stamp.counter
 
   -- the last send before an event is an earlier event, and sends the number in the whole list too
-  earlier_send : (j : ℕ) {number i : ℕ} → j < length events → IsLastSend (take j events) number i → (i < j) × ((event_at events i).what ≡ Send number)
+  earlier_send : (j : ℕ) {number i : ℕ} → j < length events → IsLastSend (take j events) number i
+      → (i < j) × ((event_at events i).what ≡ Send number)
   earlier_send j {number} {i} inside last =
       let less : i < j = omega (arith, last.inside, length-take-le j events) in
       (less, ap (λ e. e.what) (sym (at_take events j i less)) ∙ last.sends)
 
   -- an entered receipt has the stamp of one
-  receipt_of : {setup : Setup} (j number : ℕ) → AreEntered setup events → j < length events → (event_at events j).what ≡ Receipt number
+  receipt_of : {setup : Setup} (j number : ℕ) → AreEntered setup events → j < length events
+      → (event_at events j).what ≡ Receipt number
       → IsReceived setup.lead (take j events) (event_at events j) number
-  receipt_of {setup} j number entered inside is = subst (IsStamped setup.lead (take j events) (event_at events j)) is (entered j inside).stamped
+  receipt_of {setup} j number entered inside is =
+      subst (IsStamped setup.lead (take j events) (event_at events j)) is (entered j inside).stamped
 
 module _ {K : Type 0} (one other : List (Event K)) (to : ℕ → ℕ) where
   -- this is the same of each event there
@@ -41,7 +45,8 @@ module _ {K : Type 0} (one other : List (Event K)) (to : ℕ → ℕ) where
 module _ {K : Type 0} {one other : List (Event K)} {to from : ℕ → ℕ} (moved : IsReordering one other to from) where
   -- what is kept on the way there is kept on the way back
   kept_back : {X : Type 0} (of : Event K → X) → AreKept one other to of → AreKept other one from of
-  kept_back of kept i inside = let back = moved.back i inside in sym (kept (from i) back.0) ∙ ap (λ place. of (event_at other place)) back.1
+  kept_back of kept i inside = let back = moved.back i inside in
+      sym (kept (from i) back.0) ∙ ap (λ place. of (event_at other place)) back.1
 
   in_order_back : (i j : ℕ) → i < j → j < length other → (event_at other i).node ≡ (event_at other j).node → from i < from j
   in_order_back i j less inside same =
@@ -52,7 +57,8 @@ module _ {K : Type 0} {one other : List (Event K)} {to from : ℕ → ℕ} (move
       elim (cases_order (from i) (from j)) [
         | inl equal ↦ absurd (omega (arith, sym first.1 ∙ ap to equal ∙ second.1))
         | inr (inl before) ↦ before
-        | inr (inr after) ↦ absurd (omega (arith, moved.in_order (from j) (from i) after first.0 (sym one_node), first.1, second.1))
+        | inr (inr after) ↦ absurd (omega
+            (arith, moved.in_order (from j) (from i) after first.0 (sym one_node), first.1, second.1))
       ]
 
   -- the other order is a reordering back
@@ -67,7 +73,8 @@ module _ {K : Type 0} {one other : List (Event K)} {to from : ℕ → ℕ} (move
   }
 
   -- Messages are kept where each number is sent once, and on the way back where they are on the way there.
-  keeps_there : {setup : Setup} → AreEntered setup other → KeepsMessages one other to ⊎ AreSentOnce one → KeepsMessages one other to
+  keeps_there : {setup : Setup} → AreEntered setup other → KeepsMessages one other to ⊎ AreSentOnce one
+      → KeepsMessages one other to
   keeps_there entered (inl keeps) = keeps
   keeps_there entered (inr once) = λ number i j inside is last.
       let moved_inside = (moved.there j inside).0 in
@@ -85,7 +92,8 @@ module _ {K : Type 0} {one other : List (Event K)} {to from : ℕ → ℕ} (move
       let receipt_is = kept_back (λ e. e.what) moved.what j inside ∙ is in
       let receipt = receipt_of one (from j) number entered back.0 receipt_is in
       let send = earlier_send one (from j) back.0 receipt.last_send in
-      let there = subst (λ place. IsLastSend (take place other) number (to receipt.send)) back.1 (keeps number receipt.send (from j) back.0 receipt_is receipt.last_send) in
+      let there = subst (λ place. IsLastSend (take place other) number (to receipt.send)) back.1
+      (keeps number receipt.send (from j) back.0 receipt_is receipt.last_send) in
       let same = sym (moved.there receipt.send (omega arith)).1 ∙ ap from (last_send_once there last) in
       subst (IsLastSend (take (from j) one) number) same receipt.last_send
 
@@ -93,7 +101,8 @@ module _ {K : Type 0} {one other : List (Event K)} {to from : ℕ → ℕ} (move
     -- steps are steps there, and what happened before happened before
     step_there : (i j : ℕ) → IsStep one i j → IsStep other (to i) (to j)
     step_there i j (OnOneNode less inside same) =
-        OnOneNode (moved.in_order i j less inside same) (moved.there j inside).0 (moved.node i (omega arith) ∙ same ∙ sym (moved.node j inside))
+        OnOneNode (moved.in_order i j less inside same) (moved.there j inside).0
+        (moved.node i (omega arith) ∙ same ∙ sym (moved.node j inside))
     step_there i j (ByMessage number inside is last) =
         ByMessage number (moved.there j inside).0 (moved.what j inside ∙ is) (keeps number i j inside is last)
 
@@ -110,7 +119,12 @@ module _ {K : Type 0} {one other : List (Event K)} {to from : ℕ → ℕ} (move
     time_at_most times other_times j inside =
         let largest = (times j inside).one in
         let there = up_to_there largest.0 j inside largest.1 in
-        omega (arith, largest.2, moved.reading largest.0 there.0, (other_times (to j) (moved.there j inside).0).none_larger (to largest.0) there.1)
+        omega (
+          arith,
+          largest.2,
+          moved.reading largest.0 there.0,
+          (other_times (to j) (moved.there j inside).0).none_larger (to largest.0) there.1,
+        )
 
     -- where events keep their times, a counter is no larger than the counter there
     module _ (times : AreKept one other to (λ e. e.stamp.time)) where
@@ -125,14 +139,20 @@ module _ {K : Type 0} {one other : List (Event K)} {to from : ℕ → ℕ} (move
         before = of_map (λ i. HappenedBefore other i (to j)) to chain (λ i is_in. before_there i j (is.before i is_in));
         of_its_time = of_map (λ i. (event_at other i).stamp.time ≡ (event_at other (to j)).stamp.time) to chain (λ i is_in.
             let before = is.before i is_in in
-            times i (omega (arith, before_less before, before_to before)) ∙ is.of_its_time i is_in ∙ sym (times j (before_to before)));
+            times i (omega (arith, before_less before, before_to before)) ∙ is.of_its_time i is_in
+            ∙ sym (times j (before_to before)));
       }
 
       counter_at_most : AreCounted one → AreCounted other → AreAtMost one other to (λ e. e.stamp.counter)
       counter_at_most counters other_counters j inside =
           let longest = (counters j inside).one in
           let there = chain_to_there j longest.0 longest.1 in
-          omega (arith, longest.2, length-map longest.0 to, (other_counters (to j) (moved.there j inside).0).none_longer (map to longest.0) there)
+          omega (
+            arith,
+            longest.2,
+            length-map longest.0 to,
+            (other_counters (to j) (moved.there j inside).0).none_longer (map to longest.0) there,
+          )
 
   -- a number that is no larger on the way there, nor on the way back, is the same
   same_number : (of : Event K → ℕ) → AreAtMost one other to of → AreAtMost other one from of → AreKept one other to of
@@ -142,13 +162,15 @@ module _ {K : Type 0} {one other : List (Event K)} {to from : ℕ → ℕ} (move
 
 -- the same events in two orders have the same stamps
 module _ {K : Type 0} {setup other_setup : Setup} {one other : List (Event K)} {to from : ℕ → ℕ} where
-  pub stamps_same : AreEntered setup one → AreEntered other_setup other → AreTimed one → AreCounted one → AreTimed other → AreCounted other
+  pub stamps_same : AreEntered setup one → AreEntered other_setup other → AreTimed one → AreCounted one → AreTimed other
+      → AreCounted other
       → IsReordering one other to from → KeepsMessages one other to ⊎ AreSentOnce one → AreKept one other to (λ e. e.stamp)
   stamps_same entered other_entered times counters other_times other_counters moved messages i inside =
       let keeps = keeps_there moved other_entered messages in
       let keeps_from = keeps_back moved entered keeps in
       let back = turned moved in
-      let time = same_number moved (λ e. e.stamp.time) (time_at_most moved keeps times other_times) (time_at_most back keeps_from other_times times) in
+      let time = same_number moved (λ e. e.stamp.time) (time_at_most moved keeps times other_times)
+      (time_at_most back keeps_from other_times times) in
       let time_back = kept_back moved (λ e. e.stamp.time) time in
       let counters_there = counter_at_most moved keeps time counters other_counters in
       let counters_back = counter_at_most back keeps_from time_back other_counters counters in

@@ -83,7 +83,8 @@ module _ {K : Type 0} (order : K → K → Ordering) (setup : Setup) where
   -- settled stamp, by the puts so far; a close.
   abbrev pub MayBeWritten : List (Entry K) → Entry K → Type 0
   MayBeWritten earlier (Entered e) = (IsIn Closed earlier → ⊥) × MayEnter setup (events_of earlier) e
-  MayBeWritten earlier (Read key stamp answer) = IsSettled setup earlier stamp × IsReadAnswer (puts (events_of earlier)) key stamp answer
+  MayBeWritten earlier (Read key stamp answer) =
+      IsSettled setup earlier stamp × IsReadAnswer (puts (events_of earlier)) key stamp answer
   MayBeWritten earlier (Cut stamp count rows) =
       IsSettled setup earlier stamp × IsPage order (puts (events_of earlier)) stamp rows × (count ≡ length rows)
   MayBeWritten earlier Closed = ⊤

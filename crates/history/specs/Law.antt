@@ -46,10 +46,12 @@ abbrev pub Law : {K : Type 0} → (K → K → Ordering) → Type 0
 Law {K} order = (setup : Setup) (history : List (Entry K)) → IsHistory order setup history → IsLawful order setup history
 
 -- What was written behind `earlier` leaves a stamp settled, and right exactly those answers at it that were right before.
-pub record LeavesAnswers {K : Type 0} (order : K → K → Ordering) (setup : Setup) (earlier later : List (Entry K)) (stamp : ℕ) : Type 0 where
+pub record LeavesAnswers {K : Type 0} (order : K → K → Ordering) (setup : Setup) (earlier later : List (Entry K))
+    (stamp : ℕ) : Type 0 where
   pub settled : IsSettled setup (earlier ++ later) stamp
   pub reads : (key : K) (answer : Option (Version K))
-      → IsReadAnswer (puts (events_of earlier)) key stamp answer ↔ IsReadAnswer (puts (events_of (earlier ++ later))) key stamp answer
+      → IsReadAnswer (puts (events_of earlier)) key stamp answer ↔ IsReadAnswer (puts (events_of (earlier ++ later))) key stamp
+      answer
   pub cuts : (rows : List (Version K))
       → IsPage order (puts (events_of earlier)) stamp rows ↔ IsPage order (puts (events_of (earlier ++ later))) stamp rows
 
@@ -61,4 +63,5 @@ module _ {K : Type 0} (order : K → K → Ordering) where
 
   -- once the recorder is closed, every stamp is settled
   abbrev pub AllSettledWhenClosed : Type 0
-  AllSettledWhenClosed = (setup : Setup) (history : List (Entry K)) (stamp : ℕ) → IsIn Closed history → IsSettled setup history stamp
+  AllSettledWhenClosed = (setup : Setup) (history : List (Entry K)) (stamp : ℕ) → IsIn Closed history
+      → IsSettled setup history stamp

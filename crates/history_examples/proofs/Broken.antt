@@ -1,5 +1,6 @@
 -- For each clause of the law, entries that break it alone.
-use Rattle.std.proofs.Common.{◌≡◌, ◌≢◌, ℕ, suc, zero, ◌+◌, ◌-◌, ◌<◌, ◌≤◌, ◌⊎◌, ◌++◌, inl, inr, false, List, [], ◌∷◌, length, nat_eq, None, Some, refl, sym, ap, ◌∙◌, subst, arith}
+use Rattle.std.proofs.Common.{◌≡◌, ◌≢◌, ℕ, suc, zero, ◌+◌, ◌-◌, ◌<◌, ◌≤◌, ◌⊎◌, ◌++◌, inl, inr, false, List, [], ◌∷◌, length}
+use Rattle.std.proofs.Common.{nat_eq, None, Some, refl, sym, ap, ◌∙◌, subst, arith}
 use Rattle.std.specs.Prelude.{negsuc}
 use Rattle.std.specs.declared.cmp.Ordering.{Ordering}
 use Rattle.std.proofs.Math.Dec.{lit<, lit≤}
@@ -22,7 +23,8 @@ use Rattle.history.proofs.Places.{before_less, before_to, step_less}
 
 -- clause by clause
 each : (P : Clause → Type 0) → P Time → P Drift → P Counter → P Later → P Reads → P Cuts → (clause : Clause) → P clause
-each P time drift counter later reads cuts clause = elim clause as P [ Time ↦ time | Drift ↦ drift | Counter ↦ counter | Later ↦ later | Reads ↦ reads | Cuts ↦ cuts ]
+each P time drift counter later reads cuts clause =
+    elim clause as P [ Time ↦ time | Drift ↦ drift | Counter ↦ counter | Later ↦ later | Reads ↦ reads | Cuts ↦ cuts ]
 
 first : (j : ℕ) → j < 1 → j ≡ 0
 first j below = omega arith
@@ -62,7 +64,8 @@ module _ {K : Type 0} (e : Event K) where
   }
 
   largest_is : (t : ℕ) → IsLargestReading (e ∷ []) 0 t → e.reading ≡ t
-  largest_is t is = elim is.one.1 [ inl here ↦ ap (λ i. (event_at (e ∷ []) i).reading) (sym here) ∙ is.one.2 | inr before ↦ never is.one.0 0 before ]
+  largest_is t is = elim is.one.1
+      [ inl here ↦ ap (λ i. (event_at (e ∷ []) i).reading) (sym here) ∙ is.one.2 | inr before ↦ never is.one.0 0 before ]
 
   module _ (order : K → K → Ordering) (history : List (Entry K)) (is : events_of history ≡ e ∷ []) where
     -- what each clause then asks for
@@ -77,13 +80,19 @@ module _ {K : Type 0} (e : Event K) where
     holds : (clause : Clause) → Asks clause → Holds order small_setup history clause
     holds Time asked = rw is (λ j below. rw (first j below) (subst (IsLargestReading (e ∷ []) 0) asked largest_alone))
     holds Drift asked = rw is (λ j below. rw (first j below) asked)
-    holds Counter asked = rw is (λ j below. rw (first j below) (subst (IsLongestChain (e ∷ []) 0) (sym asked) (longest_first (e ∷ []))))
+    holds Counter asked = rw is (λ j below. rw (first j below)
+        (subst (IsLongestChain (e ∷ []) 0) (sym asked) (longest_first (e ∷ []))))
     holds Later asked = rw is (λ i j before. never i j before)
     holds Reads asked = no_reads order history asked
     holds Cuts asked = no_cuts order history asked
 
-    breaks : (clause : Clause) → (Holds order small_setup history clause → ⊥) → ((other : Clause) → (other ≡ clause) ⊎ Asks other) → BreaksOnly order history clause
-    breaks clause not asked = record { breaks = not; others = λ other differs. elim (asked other) [ inl same ↦ absurd (differs same) | inr asks ↦ holds other asks ] }
+    breaks : (clause : Clause) → (Holds order small_setup history clause → ⊥) → ((other : Clause) → (other ≡ clause) ⊎ Asks other)
+        → BreaksOnly order history clause
+    breaks clause not asked = record {
+      breaks = not;
+      others = λ other differs. elim (asked other)
+          [ inl same ↦ absurd (differs same) | inr asks ↦ holds other asks ];
+    }
 
 -- no event at all
 module _ {K : Type 0} (order : K → K → Ordering) (history : List (Entry K)) (is : events_of history ≡ []) where
@@ -103,8 +112,14 @@ module _ {K : Type 0} (order : K → K → Ordering) (history : List (Entry K)) 
   empty_holds Reads asked = no_reads order history asked
   empty_holds Cuts asked = no_cuts order history asked
 
-  empty_breaks : (clause : Clause) → (Holds order small_setup history clause → ⊥) → ((other : Clause) → (other ≡ clause) ⊎ EmptyAsks other) → BreaksOnly order history clause
-  empty_breaks clause not asked = record { breaks = not; others = λ other differs. elim (asked other) [ inl same ↦ absurd (differs same) | inr asks ↦ empty_holds other asks ] }
+  empty_breaks : (clause : Clause) → (Holds order small_setup history clause → ⊥)
+      → ((other : Clause) → (other ≡ clause) ⊎ EmptyAsks other) → BreaksOnly order history clause
+  empty_breaks clause not asked =
+      record {
+        breaks = not;
+        others =
+            λ other differs. elim (asked other) [ inl same ↦ absurd (differs same) | inr asks ↦ empty_holds other asks ];
+      }
 
 -- notes, and what stands behind them
 module _ {K : Type 0} where
@@ -115,7 +130,8 @@ module _ {K : Type 0} where
   count zero rest = omega arith
   count (suc n) rest = rw append_assoc (omega (arith, count n (Entered (note n) ∷ rest)))
 
-  behind : (n i j : ℕ) (rest : List (Entry K)) → j ≡ n + i → event_at (events_of (notes n ++ rest)) j ≡ event_at (events_of rest) i
+  behind : (n i j : ℕ) (rest : List (Entry K)) → j ≡ n + i
+      → event_at (events_of (notes n ++ rest)) j ≡ event_at (events_of rest) i
   behind zero i j rest is = ap (event_at (events_of rest)) (omega (arith, is))
   behind (suc n) i j rest is = rw append_assoc (behind n (suc i) j (Entered (note n) ∷ rest) (omega (arith, is)))
 
@@ -123,9 +139,11 @@ module _ {K : Type 0} where
   at_note zero i rest below = absurd (omega arith)
   at_note (suc n) i rest below =
       let more : List (Entry K) = Entered (note n) ∷ rest in
-      rw append_assoc (below_more (λ j. event_at (events_of (notes n ++ more)) j ≡ note j) n (λ j less. at_note n j more less) (behind n 0 n more (omega arith)) i (omega arith))
+      rw append_assoc (below_more (λ j. event_at (events_of (notes n ++ more)) j ≡ note j) n (λ j less. at_note n j more less)
+      (behind n 0 n more (omega arith)) i (omega arith))
 
-  without : (kind n : ℕ) (rest : List (Entry K)) → nat_eq 0 kind ≡ false → has_kind kind rest ≡ false → has_kind kind (notes n ++ rest) ≡ false
+  without : (kind n : ℕ) (rest : List (Entry K)) → nat_eq 0 kind ≡ false → has_kind kind rest ≡ false
+      → has_kind kind (notes n ++ rest) ≡ false
   without kind zero rest event none = none
   without kind (suc n) rest event none = rw append_assoc (without kind n (Entered (note n) ∷ rest) event (rw event none))
 
@@ -145,7 +163,8 @@ module _ {K : Type 0} (order : K → K → Ordering) (n reading time counter : �
 
   each_event : (P : Event K → Type 0) → ((i : ℕ) → P (note i)) → P last → (j : ℕ) → j < suc n → P (event_at marks j)
   each_event P of_notes of_last j below =
-      below_more (λ j. P (event_at marks j)) n (λ j less. rw (at_note n j _ less) (of_notes j)) (rw at_last of_last) j (omega arith)
+      below_more (λ j. P (event_at marks j)) n (λ j less. rw (at_note n j _ less) (of_notes j)) (rw at_last of_last) j
+      (omega arith)
 
   step : (i j : ℕ) → i < j → j < suc n → IsStep marks i j
   step i j before below =
@@ -157,11 +176,17 @@ module _ {K : Type 0} (order : K → K → Ordering) (n reading time counter : �
       let here = at_note n j (Entered last ∷ []) below in
       let there = at_note n (j - 1) (Entered last ∷ []) (omega arith) in
       record {
-        later = λ i from. rw (at_note n i _ (omega (arith, step_less from)), here) (record { time = omega arith; counter = λ same. step_less from });
+        later = λ i from. rw (at_note n i _ (omega (arith, step_less from)), here)
+            (record { time = omega arith; counter = λ same. step_less from });
         own = rw here (omega arith);
         time = inl (rw here refl);
         counter = elim (cases_lt 0 j) [
-          | inl more ↦ inr (j - 1, step (j - 1) j (omega arith) (omega arith), rw (there, here) refl, rw (there, here) (omega arith))
+          | inl more ↦ inr (
+            j - 1,
+            step (j - 1) j (omega arith) (omega arith),
+            rw (there, here) refl,
+            rw (there, here) (omega arith),
+          )
           | inr none ↦ inl (rw here (omega arith))
         ];
       }
@@ -170,12 +195,14 @@ module _ {K : Type 0} (order : K → K → Ordering) (n reading time counter : �
     follows : (j : ℕ) → j < length marks → Follows marks j
     follows j inside = below_more (Follows marks) n note_follows of_last j (rw count at inside)
 
-    follows_breaks : (clause : Clause) → (Holds order small_setup ramp clause → ⊥) → (Drift ≢ clause → Holds order small_setup ramp Drift) → (Later ≢ clause → Holds order small_setup ramp Later)
+    follows_breaks : (clause : Clause) → (Holds order small_setup ramp clause → ⊥)
+        → (Drift ≢ clause → Holds order small_setup ramp Drift) → (Later ≢ clause → Holds order small_setup ramp Later)
         → BreaksOnly order ramp clause
     follows_breaks clause not drift later = record {
       breaks = not;
       others = each _ (λ is. largest marks follows) drift (λ is. longest marks follows) later
-          (λ is. no_reads order ramp (without 1 n (Entered last ∷ []) refl refl)) (λ is. no_cuts order ramp (without 2 n (Entered last ∷ []) refl refl));
+          (λ is. no_reads order ramp (without 1 n (Entered last ∷ []) refl refl))
+          (λ is. no_cuts order ramp (without 2 n (Entered last ∷ []) refl refl));
     }
 
 -- one note and another
@@ -203,13 +230,20 @@ module _ {K : Type 0} (order : K → K → Ordering) where
   later_bites m is =
       let end = at_last order (suc m) 1001 1001 0 in
       follows_breaks order (suc m) 1001 1001 0 (record {
-        later = λ i from. rw (at_note (suc m) i _ (step_less from), end) (record { time = lit≤ tt; counter = λ same. absurd (omega (arith, same)) });
+        later = λ i from. rw (at_note (suc m) i _ (step_less from), end)
+            (record { time = lit≤ tt; counter = λ same. absurd (omega (arith, same)) });
         own = rw end (lit≤ tt);
         time = inl (rw end refl);
         counter = inl (rw end refl);
       }) Later
-      (λ h. omega (arith, is, rw (at_note (suc m) m _ (omega arith), end) at (h m (suc m) (InOneStep (step order (suc m) 1001 1001 0 m (suc m) (omega arith) (omega arith))))))
-      (λ is j inside. each_event order (suc m) 1001 1001 0 (λ e. e.stamp.time ≤ e.reading + 500 + small_setup.backstep e.node) (λ i. lit≤ tt) (lit≤ tt) j (omega (arith, rw count at inside)))
+      (λ h. omega (
+        arith,
+        is,
+        rw (at_note (suc m) m _ (omega arith), end) at
+            (h m (suc m) (InOneStep (step order (suc m) 1001 1001 0 m (suc m) (omega arith) (omega arith)))),
+      ))
+      (λ is j inside. each_event order (suc m) 1001 1001 0 (λ e. e.stamp.time ≤ e.reading + 500 + small_setup.backstep e.node)
+      (λ i. lit≤ tt) (lit≤ tt) j (omega (arith, rw count at inside)))
       (λ is. absurd (is refl))
 
   -- two notes, of which the other has a larger reading than its time
@@ -228,7 +262,11 @@ module _ {K : Type 0} (order : K → K → Ordering) where
       0 ∷ [],
       record {
         is_chain = tt;
-        before = λ i is_in. elim is_in [ inl here ↦ rw here (InOneStep (step order 1 1001 1000 1 0 1 (lit< tt) (lit< tt))) | inr there ↦ elim there [ ] ];
+        before = λ i is_in. elim is_in [
+          | inl here ↦
+              rw here (InOneStep (step order 1 1001 1000 1 0 1 (lit< tt) (lit< tt)))
+          | inr there ↦ elim there [ ]
+        ];
         of_its_time = λ i is_in. elim is_in [ inl here ↦ rw here refl | inr there ↦ elim there [ ] ];
       },
       refl,
@@ -240,8 +278,11 @@ module _ {K : Type 0} (order : K → K → Ordering) where
   low_bites : BreaksOnly order (ramp order 1 1001 1000 1) Time
   low_bites = record {
     breaks = λ h. omega (arith, (h 1 (lit< tt)).none_larger 1 (inl refl));
-    others = each _ (λ is. absurd (is refl)) (λ is j inside. each_event order 1 1001 1000 1 (λ e. e.stamp.time ≤ e.reading + 500 + small_setup.backstep e.node) (λ i. lit≤ tt) (lit≤ tt) j inside)
-        (λ is. low_counters) (λ is. one_rises 1001) (λ is. no_reads order (ramp order 1 1001 1000 1) refl) (λ is. no_cuts order (ramp order 1 1001 1000 1) refl);
+    others = each _ (λ is. absurd (is refl))
+        (λ is j inside. each_event order 1 1001 1000 1 (λ e. e.stamp.time ≤ e.reading + 500 + small_setup.backstep e.node)
+        (λ i. lit≤ tt) (lit≤ tt) j inside)
+        (λ is. low_counters) (λ is. one_rises 1001) (λ is. no_reads order (ramp order 1 1001 1000 1) refl)
+        (λ is. no_cuts order (ramp order 1 1001 1000 1) refl);
   }
 
 -- each of the lists
@@ -250,7 +291,8 @@ module _ {K : Type 0} (order : K → K → Ordering) (law : IsKeyOrder order) (k
   put = did 0 1000 1000 0 (Put key (negsuc 8999))
 
   -- a row does not come twice
-  twice : (rest : List (Version K)) → IsStrictlySortedBy (λ (v w : Version K). order v.key w.key) (first_put key ∷ first_put key ∷ rest) → ⊥
+  twice : (rest : List (Version K))
+      → IsStrictlySortedBy (λ (v w : Version K). order v.key w.key) (first_put key ∷ first_put key ∷ rest) → ⊥
   unfolding IsStrictlySortedBy
   twice rest sorted = both_ways (is_lt (order key key)) (ap is_lt (law.itself key)) (ap is_lt sorted.0.0)
 
@@ -261,19 +303,26 @@ module _ {K : Type 0} (order : K → K → Ordering) (law : IsKeyOrder order) (k
   times history (inr (inr there)) = elim there [ ]
 
   reads : (history : List (Entry K)) → IsIn history (broken key Reads) → BreaksOnly order history Reads
-  reads history (inl here) = rw here (breaks _ order (Read key 65536000 None ∷ put ∷ []) refl Reads (λ h. omega (arith, h key 65536000 None (inl refl) (first_put key) (inl refl) refl))
+  reads history (inl here) = rw here
+      (breaks _ order (Read key 65536000 None ∷ put ∷ []) refl Reads
+      (λ h. omega (arith, h key 65536000 None (inl refl) (first_put key) (inl refl) refl))
       (each _ (inr refl) (inr (lit≤ tt)) (inr refl) (inr tt) (inl refl) (inr refl)))
   reads history (inr (inl here)) = rw here (empty_breaks order (Read key 65536000 (Some (first_put key)) ∷ []) refl Reads
-      (λ h. elim (h key 65536000 (Some (first_put key)) (inl refl)).there [ ]) (each _ (inr tt) (inr tt) (inr tt) (inr tt) (inl refl) (inr refl)))
+      (λ h. elim (h key 65536000 (Some (first_put key)) (inl refl)).there [ ])
+      (each _ (inr tt) (inr tt) (inr tt) (inr tt) (inl refl) (inr refl)))
   reads history (inr (inr there)) = elim there [ ]
 
   cuts : (history : List (Entry K)) → IsIn history (broken key Cuts) → BreaksOnly order history Cuts
   cuts history (inl here) = rw here (breaks _ order (Cut 65536000 0 [] ∷ put ∷ []) refl Cuts
-      (λ h. elim ((h 65536000 0 [] (inl refl)).0.complete (first_put key) (inl refl) (lit≤ tt)).1 [ ]) (each _ (inr refl) (inr (lit≤ tt)) (inr refl) (inr tt) (inr refl) (inl refl)))
+      (λ h. elim ((h 65536000 0 [] (inl refl)).0.complete (first_put key) (inl refl) (lit≤ tt)).1 [ ])
+      (each _ (inr refl) (inr (lit≤ tt)) (inr refl) (inr tt) (inr refl) (inl refl)))
   cuts history (inr (inl here)) = rw here (empty_breaks order (Cut 65536000 1 (first_put key ∷ []) ∷ []) refl Cuts
-      (λ h. elim ((h 65536000 1 (first_put key ∷ []) (inl refl)).0.newest (first_put key) (inl refl)).there [ ]) (each _ (inr tt) (inr tt) (inr tt) (inr tt) (inr refl) (inl refl)))
-  cuts history (inr (inr (inl here))) = rw here (breaks _ order (Cut 65536000 2 (first_put key ∷ first_put key ∷ []) ∷ put ∷ []) refl Cuts
-      (λ h. twice [] (h 65536000 2 (first_put key ∷ first_put key ∷ []) (inl refl)).0.ascending) (each _ (inr refl) (inr (lit≤ tt)) (inr refl) (inr tt) (inr refl) (inl refl)))
+      (λ h. elim ((h 65536000 1 (first_put key ∷ []) (inl refl)).0.newest (first_put key) (inl refl)).there [ ])
+      (each _ (inr tt) (inr tt) (inr tt) (inr tt) (inr refl) (inl refl)))
+  cuts history (inr (inr (inl here))) =
+      rw here (breaks _ order (Cut 65536000 2 (first_put key ∷ first_put key ∷ []) ∷ put ∷ []) refl Cuts
+      (λ h. twice [] (h 65536000 2 (first_put key ∷ first_put key ∷ []) (inl refl)).0.ascending)
+      (each _ (inr refl) (inr (lit≤ tt)) (inr refl) (inr tt) (inr refl) (inl refl)))
   cuts history (inr (inr (inr (inl here)))) = rw here (empty_breaks order (Cut 65536000 1 [] ∷ []) refl Cuts
       (λ h. omega (arith, (h 65536000 1 [] (inl refl)).1)) (each _ (inr tt) (inr tt) (inr tt) (inr tt) (inr refl) (inl refl)))
   cuts history (inr (inr (inr (inr there)))) = elim there [ ]

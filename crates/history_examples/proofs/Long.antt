@@ -23,32 +23,36 @@ module _ (K : Type 0) where
 
   all_entered : (n : ℕ) (entry : Entry K) → IsIn entry (notes n) → kind entry ≡ 0
   all_entered zero entry is_in = elim is_in [ ]
-  all_entered (suc n) entry is_in = each_push (λ entry. kind entry ≡ 0) (Entered (note n)) (notes n) (all_entered n) refl entry is_in
+  all_entered (suc n) entry is_in =
+      each_push (λ entry. kind entry ≡ 0) (Entered (note n)) (notes n) (all_entered n) refl entry is_in
 
   all_at_1000 : (n : ℕ) (e : Event K) → IsIn e (events_of (notes n)) → e.reading ≡ 1000
   all_at_1000 zero e is_in = elim is_in [ ]
-  all_at_1000 (suc n) e is_in = each_push (λ e. e.reading ≡ 1000) (note n) (events_of (notes n)) (all_at_1000 n) refl e (subst (IsIn e) (more n) is_in)
+  all_at_1000 (suc n) e is_in = each_push (λ e. e.reading ≡ 1000) (note n) (events_of (notes n)) (all_at_1000 n) refl e
+      (subst (IsIn e) (more n) is_in)
 
   stamped : (n : ℕ) → (note n).stamp ≡ own_stamp (last_stamp (events_of {K = K} (notes n)) 0) 1000
   stamped zero = refl
   stamped (suc n) =
-      let last : last_stamp (events_of {K = K} (notes (suc n))) 0 ≡ (note n).stamp = ap (λ events. last_stamp events 0) (more n) ∙ last_stamp-push (events_of (notes n)) (note n) 0 true refl in
+      let last : last_stamp (events_of {K = K} (notes (suc n))) 0 ≡ (note n).stamp =
+      ap (λ events. last_stamp events 0) (more n) ∙ last_stamp-push (events_of (notes n)) (note n) 0 true refl in
       let next : suc n ≡ n + 1 = omega arith in
       let goes_on : (note (suc n)).stamp ≡ own_stamp (note n).stamp 1000 = λ i. record { time = 1000; counter = next i } in
       goes_on ∙ ap (λ s. own_stamp s 1000) (sym last)
 
   long : (order : K → K → Ordering) (n : ℕ) → n ≤ 65536 → IsHistory order small_setup (notes n)
   long order zero within = λ j inside. absurd (omega (arith, inside))
-  long order (suc n) within = one_more (MayBeWritten order small_setup) Closed (notes n) (Entered (note n)) (long order n (omega (arith, within))) (
-    λ closed. absurd (omega (arith, all_entered n Closed closed)),
-    record {
-      node = lit< tt;
-      reading = lit≤ tt;
-      clock = λ d is_in same. omega (arith, all_at_1000 n d is_in);
-      stamped = stamped n;
-      counter = omega (arith, within);
-    },
-  )
+  long order (suc n) within = one_more (MayBeWritten order small_setup) Closed (notes n) (Entered (note n))
+      (long order n (omega (arith, within))) (
+        λ closed. absurd (omega (arith, all_entered n Closed closed)),
+        record {
+          node = lit< tt;
+          reading = lit≤ tt;
+          clock = λ d is_in same. omega (arith, all_at_1000 n d is_in);
+          stamped = stamped n;
+          counter = omega (arith, within);
+        },
+      )
 
 pub long_is_history : {K : Type 0} (order : K → K → Ordering) → LongIsHistory order
 long_is_history {K} order = long K order 65536 (lit≤ tt)

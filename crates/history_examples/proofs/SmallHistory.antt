@@ -1,5 +1,6 @@
 -- The small history is one.
-use Rattle.std.proofs.Common.{◌≡◌, ℕ, suc, zero, ◌<◌, ◌≤◌, ◌++◌, inl, inr, List, [], ◌∷◌, take, drop, refl, sym, ap, ◌∙◌, subst, arith}
+use Rattle.std.proofs.Common.{◌≡◌, ℕ, suc, zero, ◌<◌, ◌≤◌, ◌++◌, inl, inr, List, [], ◌∷◌, take, drop, refl, sym, ap, ◌∙◌, subst}
+use Rattle.std.proofs.Common.{arith}
 use Rattle.std.specs.declared.cmp.Ordering.{Ordering}
 use Rattle.std.specs.declared.cmp.Ordering.TheVariants.{Less}
 use Rattle.std.specs.List.{AllByRecursion}
@@ -14,7 +15,8 @@ use Rattle.store.specs.Page.{IsPage}
 use Rattle.store.specs.declared.version.Version.{Version}
 use Rattle.history.specs.History.{Closed, Entry, IsHistory, IsSettled, events_of, last_stamp}
 use Rattle.history.proofs.Lists.{in_append}
-use Rattle.history_examples.specs.Examples.{ExampleIsHistory, first_put, fourth_put, second_put, small_history, small_setup, third_put}
+use Rattle.history_examples.specs.Examples.{ExampleIsHistory, first_put, fourth_put, second_put, small_history, small_setup}
+use Rattle.history_examples.specs.Examples.{third_put}
 use Rattle.history_examples.proofs.Entering.{◌▹◌, by_entries, enters, received}
 
 of_each : {X : Type 0} (P : X → Type 0) (x : X) (xs : List X) → AllByRecursion P xs → IsIn x xs → P x
@@ -29,7 +31,8 @@ newest versions stamp v there not_above each = record {
   there = there;
   of_key = refl;
   not_above = not_above;
-  none_later = λ w is_in of_key below. of_each (λ w. w.key ≡ v.key → w.stamp ≤ stamp → IsNotLater w v) w versions each is_in of_key below;
+  none_later = λ w is_in of_key below. of_each (λ w. w.key ≡ v.key → w.stamp ≤ stamp → IsNotLater w v) w versions each is_in
+      of_key below;
 }
 
 module _ {K : Type 0} (order : K → K → Ordering) (law : IsKeyOrder order) (key other : K) (before : order key other ≡ Less) where
@@ -44,22 +47,27 @@ module _ {K : Type 0} (order : K → K → Ordering) (law : IsKeyOrder order) (k
   all = first_put key ∷ second_put key ∷ third_put other ∷ fourth_put key ∷ []
 
   first_newest : IsNewest early key 65536002 (first_put key)
-  first_newest = newest early 65536002 (first_put key) (inl refl) (lit≤ tt) ((λ same below. inr (refl, omega arith)) ▹ (λ same below. absurd (omega (arith, below))) ▹ tt)
+  first_newest = newest early 65536002 (first_put key) (inl refl) (lit≤ tt)
+      ((λ same below. inr (refl, omega arith)) ▹ (λ same below. absurd (omega (arith, below))) ▹ tt)
 
   second_newest : IsNewest all key 65536003 (second_put key)
   second_newest = newest all 65536003 (second_put key) (inr (inl refl)) (lit≤ tt)
-      ((λ same below. inl (lit< tt)) ▹ (λ same below. inr (refl, omega arith)) ▹ (λ same below. absurd (omega (arith, below))) ▹ (λ same below. absurd (omega (arith, below))) ▹ tt)
+      ((λ same below. inl (lit< tt)) ▹ (λ same below. inr (refl, omega arith)) ▹ (λ same below. absurd (omega (arith, below))) ▹
+      (λ same below. absurd (omega (arith, below))) ▹ tt)
 
   third_newest : IsNewest all other 104857601 (third_put other)
   third_newest = newest all 104857601 (third_put other) (inr (inr (inl refl))) (lit≤ tt)
-      ((λ same below. inl (lit< tt)) ▹ (λ same below. inl (lit< tt)) ▹ (λ same below. inr (refl, omega arith)) ▹ (λ same below. absurd (not_same same)) ▹ tt)
+      ((λ same below. inl (lit< tt)) ▹ (λ same below. inl (lit< tt)) ▹ (λ same below. inr (refl, omega arith)) ▹
+      (λ same below. absurd (not_same same)) ▹ tt)
 
   fourth_newest : IsNewest all key 104857601 (fourth_put key)
   fourth_newest = newest all 104857601 (fourth_put key) (inr (inr (inr (inl refl)))) (lit≤ tt)
-      ((λ same below. inl (lit< tt)) ▹ (λ same below. inl (lit< tt)) ▹ (λ same below. inl (lit< tt)) ▹ (λ same below. inr (refl, omega arith)) ▹ tt)
+      ((λ same below. inl (lit< tt)) ▹ (λ same below. inl (lit< tt)) ▹ (λ same below. inl (lit< tt)) ▹
+      (λ same below. inr (refl, omega arith)) ▹ tt)
 
   none_at_first : (w : Version K) → IsIn w all → w.key ≡ key → 0 < w.stamp
-  none_at_first w is_in = of_each (λ w. w.key ≡ key → 0 < w.stamp) w all ((λ same. lit< tt) ▹ (λ same. lit< tt) ▹ (λ same. lit< tt) ▹ (λ same. lit< tt) ▹ tt) is_in
+  none_at_first w is_in = of_each (λ w. w.key ≡ key → 0 < w.stamp) w all
+      ((λ same. lit< tt) ▹ (λ same. lit< tt) ▹ (λ same. lit< tt) ▹ (λ same. lit< tt) ▹ tt) is_in
 
   early_page : IsPage order early 65536002 (first_put key ∷ [])
   unfolding IsStrictlySortedBy
@@ -76,9 +84,11 @@ module _ {K : Type 0} (order : K → K → Ordering) (law : IsKeyOrder order) (k
   unfolding IsStrictlySortedBy
   last_page = record {
     ascending = ((before, tt), (tt, tt));
-    newest = λ row is_in. elim is_in [ inl here ↦ rw here fourth_newest | inr (inl here) ↦ rw here third_newest | inr (inr there) ↦ elim there [ ] ];
+    newest = λ row is_in. elim is_in
+        [ inl here ↦ rw here fourth_newest | inr (inl here) ↦ rw here third_newest | inr (inr there) ↦ elim there [ ] ];
     complete = λ w is_in below. of_each (λ w. (row : Version K) × IsIn row rows × (row.key ≡ w.key)) w all
-        ((fourth_put key, inl refl, refl) ▹ (fourth_put key, inl refl, refl) ▹ (third_put other, inr (inl refl), refl) ▹ (fourth_put key, inl refl, refl) ▹ tt) is_in;
+        ((fourth_put key, inl refl, refl) ▹ (fourth_put key, inl refl, refl) ▹ (third_put other, inr (inl refl), refl) ▹
+        (fourth_put key, inl refl, refl) ▹ tt) is_in;
   }
 
   settled : (node : ℕ) → node < 2 → 65536002 ≤ code_of (last_stamp (events_of (take 5 (small_history key other))) node)

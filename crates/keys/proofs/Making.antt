@@ -9,15 +9,19 @@ use Rattle.keys.specs.declared.tag.Tag.{Tag}
 use Rattle.refusals.specs.Refusals.{result_map, shown}
 use Rattle.refusals.specs.declared.refusal.Refusal.{Refusal}
 
-same_bytes : (bytes : List ℕ) (tag : Tag) → is_tag bytes ≡ true → shown (result_map bytes_of (Ok tag)) ≡ tag_answer bytes → tag.bytes ≡ bytes
+same_bytes : (bytes : List ℕ) (tag : Tag) → is_tag bytes ≡ true → shown (result_map bytes_of (Ok tag)) ≡ tag_answer bytes
+    → tag.bytes ≡ bytes
 same_bytes bytes tag is f = grind (arith, nat_tests, is, f)
 
 -- what was made of sixteen bytes is their tag, or the refusal
-pub tag_made : (bytes : List ℕ) (r : Result Tag Refusal) → length bytes ≡ 16 → shown (result_map bytes_of r) ≡ tag_answer bytes → shown r ≡ tag_of_bytes bytes
+pub tag_made : (bytes : List ℕ) (r : Result Tag Refusal) → length bytes ≡ 16 → shown (result_map bytes_of r) ≡ tag_answer bytes
+    → shown r ≡ tag_of_bytes bytes
 tag_made bytes r n e = go (is_tag bytes) refl r e
   where
-    go : (b : Bool) (is : is_tag bytes ≡ b) (q : Result Tag Refusal) → shown (result_map bytes_of q) ≡ tag_answer bytes → shown q ≡ tag_if bytes b is
-    go true is (Ok tag) f = ap Ok (same_tag tag (record { bytes = bytes; sixteen = sixteen bytes is; named = named bytes is }) (same_bytes bytes tag is f))
+    go : (b : Bool) (is : is_tag bytes ≡ b) (q : Result Tag Refusal) → shown (result_map bytes_of q) ≡ tag_answer bytes
+        → shown q ≡ tag_if bytes b is
+    go true is (Ok tag) f = ap Ok (same_tag tag (record { bytes = bytes; sixteen = sixteen bytes is; named = named bytes is })
+        (same_bytes bytes tag is f))
     go true is (Err k) f = grind (arith, nat_tests, is, f)
     go false is (Ok tag) f = grind (arith, nat_tests, is, f)
     go false is (Err k) f = grind (arith, nat_tests, is, f)

@@ -1,13 +1,16 @@
 -- Bytes that are added one after another.
-use Rattle.std.proofs.Common.{◌≡◌, ℕ, ◌+◌, ◌≤◌, true, if◌then◌else◌, List, ◌++◌, length, is_ok, is_err, Ok, Err, string_bytes, string_len, string_capacity, Result, String, append_assoc, arith}
+use Rattle.std.proofs.Common.{◌≡◌, ℕ, ◌+◌, ◌≤◌, true, if◌then◌else◌, List, ◌++◌, length, is_ok, is_err, Ok, Err, string_bytes}
+use Rattle.std.proofs.Common.{string_len, string_capacity, Result, String, append_assoc, arith}
 use Rattle.std.specs.Io.{StartsWith}
 use Rattle.std.proofs.Transfers.{starts_with_of_append, starts_with_trans}
 use Rattle.std.proofs.lemmas.Grind.{common_steps}
 use Rattle.lines.specs.Adding.{Adds, AddsInRoom}
 
 -- what `push_str` promises
-pub pushes : {Z X E : Type 0} {was after : String Z} {bytes : List ℕ} (r : Result X E) → string_bytes after ≡ (if is_ok r then string_bytes was ++ bytes else string_bytes was)
-    → string_capacity was ≤ string_capacity after → (string_len was + length bytes ≤ string_capacity was → is_ok r ≡ true) → AddsInRoom was after bytes r
+pub pushes : {Z X E : Type 0} {was after : String Z} {bytes : List ℕ} (r : Result X E)
+    → string_bytes after ≡ (if is_ok r then string_bytes was ++ bytes else string_bytes was)
+    → string_capacity was ≤ string_capacity after → (string_len was + length bytes ≤ string_capacity was → is_ok r ≡ true)
+    → AddsInRoom was after bytes r
 pushes {was = was} {after = after} {bytes = bytes} r b c s =
     let adds : Adds was after bytes r = grind (arith, common_steps) in
     record { adds = adds; room = grind (arith, common_steps) }
@@ -22,28 +25,33 @@ pub start : {Z : Type 0} (was : String Z) (all : List ℕ) → OnTheWay was was 
 start was all = grind (arith, common_steps)
 
 -- the next addition, where it succeeded
-pub step : {Z X E : Type 0} {was mid after : String Z} {all todo : List ℕ} (now rest : List ℕ) {x : X} → OnTheWay was mid all todo → todo ≡ now ++ rest → Adds {E = E} mid after now (Ok x) → OnTheWay was after all rest
+pub step : {Z X E : Type 0} {was mid after : String Z} {all todo : List ℕ} (now rest : List ℕ) {x : X} → OnTheWay was mid all todo
+    → todo ≡ now ++ rest → Adds {E = E} mid after now (Ok x) → OnTheWay was after all rest
 step now rest g e a = grind (arith, common_steps, starts_with_trans)
 
 -- and where it failed: all has failed
-pub stop : {Z X Y E F : Type 0} {was mid after : String Z} {all todo : List ℕ} (now rest : List ℕ) {e : E} (q : Result Y F) → OnTheWay was mid all todo → todo ≡ now ++ rest → Adds {X = X} mid after now (Err e)
+pub stop : {Z X Y E F : Type 0} {was mid after : String Z} {all todo : List ℕ} (now rest : List ℕ) {e : E} (q : Result Y F)
+    → OnTheWay was mid all todo → todo ≡ now ++ rest → Adds {X = X} mid after now (Err e)
     → is_err q ≡ true → Adds was after all q
 stop {was = was} {mid = mid} {after = after} {all = all} now rest q g e a i =
     let first = string_bytes mid ++ now in
     let whole : string_bytes was ++ all ≡ first ++ rest = cc (g.bytes, e, append_assoc (string_bytes mid) now rest) in
     let kept = starts_with_trans (string_bytes after) (string_bytes mid) (string_bytes was) a.kept g.kept in
-    let part = starts_with_trans (string_bytes was ++ all) first (string_bytes after) (starts_with_of_append (string_bytes was ++ all) first rest whole) a.part in
+    let part = starts_with_trans (string_bytes was ++ all) first (string_bytes after)
+    (starts_with_of_append (string_bytes was ++ all) first rest whole) a.part in
     grind (arith, common_steps, kept, part)
 
 -- that needs no other memory
-pub stop_in_room : {Z X Y E F : Type 0} {was mid after : String Z} {all todo : List ℕ} (now rest : List ℕ) {e : E} (q : Result Y F) → OnTheWay was mid all todo → todo ≡ now ++ rest
+pub stop_in_room : {Z X Y E F : Type 0} {was mid after : String Z} {all todo : List ℕ} (now rest : List ℕ) {e : E}
+    (q : Result Y F) → OnTheWay was mid all todo → todo ≡ now ++ rest
     → AddsInRoom {X = X} mid after now (Err e) → is_err q ≡ true → AddsInRoom was after all q
 stop_in_room {was = was} {mid = mid} {after = after} {all = all} now rest q g e a i =
     let adds = stop now rest q g e a.adds i in
     record { adds = adds; room = grind (arith, common_steps) }
 
 -- and an addition that adds the rest, where it succeeded or failed
-pub onward : {Z Y F : Type 0} {was mid after : String Z} {all ys : List ℕ} (q : Result Y F) → OnTheWay was mid all ys → Adds mid after ys q → Adds was after all q
+pub onward : {Z Y F : Type 0} {was mid after : String Z} {all ys : List ℕ} (q : Result Y F) → OnTheWay was mid all ys
+    → Adds mid after ys q → Adds was after all q
 onward {was = was} {mid = mid} {after = after} {all = all} {ys = ys} q g b =
     let kept = starts_with_trans (string_bytes after) (string_bytes mid) (string_bytes was) b.kept g.kept in
     grind (arith, common_steps, kept)

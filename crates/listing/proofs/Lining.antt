@@ -1,5 +1,6 @@
 -- What is known between the lines of two records.
-use Rattle.std.proofs.Common.{◌≡◌, ℕ, suc, ◌+◌, ◌<◌, Bool, List, ◌++◌, ◌∷◌, [], length, map, drop, get_or, Ok, Err, Result, String, is_ok, is_err, true, ◌≤◌, ap, ◌∙◌, refl, arith}
+use Rattle.std.proofs.Common.{◌≡◌, ℕ, suc, ◌+◌, ◌<◌, Bool, List, ◌++◌, ◌∷◌, [], length, map, drop, get_or, Ok, Err, Result}
+use Rattle.std.proofs.Common.{String, is_ok, is_err, true, ◌≤◌, ap, ◌∙◌, refl, arith}
 use Rattle.std.proofs.lemmas.List.{at_drop_all, at_drop_more}
 use Rattle.std.proofs.lemmas.Bool.Decides.{nat_tests}
 use Rattle.std.proofs.lemmas.Grind.{common_steps}
@@ -17,12 +18,14 @@ use Rattle.listing.specs.Outcomes.{AddsOutcomes, after_one, answers_left, next_o
 use Rattle.listing.specs.declared.outcomes.Counts.{Counts}
 
 -- a call has taken one answer
-behind_call : {K : Type 0} (left : List (AnswerNumbers K)) (c : Call K) {n : ℕ} → length left ≡ suc n → length (answers_left {K = K} (Ok c) left) ≡ n
+behind_call : {K : Type 0} (left : List (AnswerNumbers K)) (c : Call K) {n : ℕ} → length left ≡ suc n
+    → length (answers_left {K = K} (Ok c) left) ≡ n
 behind_call [] c e = absurd (omega (arith, e))
 behind_call (a ∷ left) c e = omega (arith, e)
 
 -- the first line, and the others
-lines_more : (k n j : ℕ) (o p : Outcome) (os : List Outcome) → n ≡ k → j ≡ k + 1 → p ≡ o → outcome_lines k (o ∷ os) ≡ outcome_line n p ++ outcome_lines j os
+lines_more : (k n j : ℕ) (o p : Outcome) (os : List Outcome) → n ≡ k → j ≡ k + 1 → p ≡ o
+    → outcome_lines k (o ∷ os) ≡ outcome_line n p ++ outcome_lines j os
 lines_more k n j o p os e f h = rw (e, f, h) refl
 
 module _ {K : Type 0} (form : KeyForm K) (records : List Record) (answers : List (AnswerNumbers K)) where
@@ -33,14 +36,16 @@ module _ {K : Type 0} (form : KeyForm K) (records : List Record) (answers : List
   rest i left = recorded form (map content_of (drop i records)) left
 
   -- the lines of the first i records were added to the text `was`, which is `mid`; these answers are left, and these are the counts
-  pub record IsLined {Z : Type 0} (was mid : String Z) (i : ℕ) (left : List (AnswerNumbers K)) (accepted refused : ℕ) : Type 0 where
-    pub way : OnTheWay was mid (outcome_lines 2 all) (outcome_lines (2 + i) (rest i left))
-    pub accepted_counted : accepted + accepted_among (rest i left) ≡ 1 + accepted_among all
-    pub refused_counted : refused + refused_among (rest i left) ≡ refused_among all
-    pub number : accepted + refused ≡ 1 + i
-    pub enough : length left ≡ length (calls_of form (map content_of (drop i records)))
+  pub record IsLined {Z : Type 0} (was mid : String Z) (i : ℕ) (left : List (AnswerNumbers K)) (accepted refused : ℕ) : Type 0
+    where
+      pub way : OnTheWay was mid (outcome_lines 2 all) (outcome_lines (2 + i) (rest i left))
+      pub accepted_counted : accepted + accepted_among (rest i left) ≡ 1 + accepted_among all
+      pub refused_counted : refused + refused_among (rest i left) ≡ refused_among all
+      pub number : accepted + refused ≡ 1 + i
+      pub enough : length left ≡ length (calls_of form (map content_of (drop i records)))
 
-  module _ {Z : Type 0} {was mid : String Z} {i accepted refused : ℕ} {left : List (AnswerNumbers K)} (g : IsLined was mid i left accepted refused) (r : Record) (h : i < length records) where
+  module _ {Z : Type 0} {was mid : String Z} {i accepted refused : ℕ} {left : List (AnswerNumbers K)}
+      (g : IsLined was mid i left accepted refused) (r : Record) (h : i < length records) where
     -- the record that comes next, and what comes of it
     abbrev pub content : Content
     content = content_of (get_or records i r)
@@ -55,20 +60,28 @@ module _ {K : Type 0} (form : KeyForm K) (records : List Record) (answers : List
     rest_more = at_drop_more (λ (rs : List Record). recorded form (map content_of rs) left) records i r h
 
     enough_then : length left_then ≡ length (calls_of form (map content_of (drop (i + 1) records)))
-    enough_then = go (call_of form content) refl (g.enough ∙ at_drop_more (λ (rs : List Record). length (calls_of form (map content_of rs))) records i r h)
+    enough_then = go (call_of form content) refl
+        (g.enough ∙ at_drop_more (λ (rs : List Record). length (calls_of form (map content_of rs))) records i r h)
       where
-        go : (c : Result (Call K) ℕ) → call_of form content ≡ c → length left ≡ length (calls_of form (content ∷ map content_of (drop (i + 1) records)))
+        go : (c : Result (Call K) ℕ) → call_of form content ≡ c
+            → length left ≡ length (calls_of form (content ∷ map content_of (drop (i + 1) records)))
             → length (answers_left c left) ≡ length (calls_of form (map content_of (drop (i + 1) records)))
-        go (Ok c) e n = behind_call left c (n ∙ ap (λ (o : Result (Call K) ℕ). length (cons_option (result_ok o) (calls_of form (map content_of (drop (i + 1) records))))) e)
-        go (Err k) e n = n ∙ ap (λ (o : Result (Call K) ℕ). length (cons_option (result_ok o) (calls_of form (map content_of (drop (i + 1) records))))) e
+        go (Ok c) e n = behind_call left c
+            (n ∙ ap (λ (o : Result (Call K) ℕ). length
+            (cons_option (result_ok o) (calls_of form (map content_of (drop (i + 1) records))))) e)
+        go (Err k) e n = n ∙ ap (λ (o : Result (Call K) ℕ). length
+            (cons_option (result_ok o) (calls_of form (map content_of (drop (i + 1) records))))) e
 
     module _ (n : ℕ) (o : Outcome) (e : n ≡ accepted + refused + 1) (is : o ≡ outcome) where
       line_more : outcome_lines (2 + i) (rest i left) ≡ outcome_line n o ++ outcome_lines (2 + (i + 1)) (rest (i + 1) left_then)
-      line_more = ap (outcome_lines (2 + i)) rest_more ∙ lines_more (2 + i) n (2 + (i + 1)) outcome o (rest (i + 1) left_then) (omega (arith, e, g.number)) (omega arith) is
+      line_more = ap (outcome_lines (2 + i)) rest_more
+          ∙ lines_more (2 + i) n (2 + (i + 1)) outcome o (rest (i + 1) left_then) (omega (arith, e, g.number)) (omega arith) is
 
       -- behind its line
-      pub lined : {after : String Z} {X E : Type 0} {x : X} (counts : Counts) (b : Bool) (later : List (AnswerNumbers K)) → later ≡ left_then
-          → counts ≡ after_one b (record { accepted = accepted; refused = refused }) → b ≡ is_ok o → Adds {E = E} mid after (outcome_line n o) (Ok x)
+      pub lined : {after : String Z} {X E : Type 0} {x : X} (counts : Counts) (b : Bool) (later : List (AnswerNumbers K))
+          → later ≡ left_then
+          → counts ≡ after_one b (record { accepted = accepted; refused = refused }) → b ≡ is_ok o
+          → Adds {E = E} mid after (outcome_line n o) (Ok x)
           → IsLined was after (i + 1) later counts.accepted counts.refused
       lined counts b later l one ok a =
           let line = line_more in
@@ -85,7 +98,8 @@ module _ {K : Type 0} (form : KeyForm K) (records : List Record) (answers : List
           }
 
       -- where that line fails
-      pub line_failed : {after : String Z} {X E F : Type 0} {x : E} (q : Result Counts F) → Adds {X = X} mid after (outcome_line n o) (Err x) → is_err q ≡ true
+      pub line_failed : {after : String Z} {X E F : Type 0} {x : E} (q : Result Counts F)
+          → Adds {X = X} mid after (outcome_line n o) (Err x) → is_err q ≡ true
           → AddsOutcomes was after all q
       line_failed (Ok x) a f = grind (arith, nat_tests, f)
       line_failed (Err x) a f = record { text = stop _ _ (Err x) g.way line_more a f; counts = tt }
@@ -94,7 +108,8 @@ module _ {K : Type 0} (form : KeyForm K) (records : List Record) (answers : List
   pub lined_all : {Z : Type 0} {was mid : String Z} {i : ℕ} {left : List (AnswerNumbers K)} {E : Type 0} (counts : Counts)
       → IsLined was mid i left counts.accepted counts.refused → length records ≤ i → AddsOutcomes {E = E} was mid all (Ok counts)
   lined_all {i = i} {left = left} counts g h =
-      let lines = at_drop_all (λ (rs : List Record). outcome_lines (2 + i) (recorded form (map content_of rs) left)) records i h in
+      let lines = at_drop_all (λ (rs : List Record). outcome_lines (2 + i) (recorded form (map content_of rs) left)) records i
+      h in
       let accepted = at_drop_all (λ (rs : List Record). accepted_among (recorded form (map content_of rs) left)) records i h in
       let refused = at_drop_all (λ (rs : List Record). refused_among (recorded form (map content_of rs) left)) records i h in
       record {

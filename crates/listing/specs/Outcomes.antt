@@ -24,7 +24,8 @@ module _ {K : Type 0} where
   -- of these records, one after another
   abbrev pub recorded : KeyForm K → List Content → List (AnswerNumbers K) → List Outcome
   recorded form [] answers = []
-  recorded form (m ∷ ms) answers = next_outcome m (call_of form m) answers ∷ recorded form ms (answers_left (call_of form m) answers)
+  recorded form (m ∷ ms) answers =
+      next_outcome m (call_of form m) answers ∷ recorded form ms (answers_left (call_of form m) answers)
 
 -- one record more, accepted or refused
 abbrev pub after_one : Bool → Counts → Counts

@@ -5,7 +5,8 @@ ghost use Rattle.refusals.specs.Refusals.{number_of, result_map, shown};
 ghost use Rattle.replay.specs.Calls.{answer_numbers};
 ghost use Rattle.trace.specs.Contents.{content_of};
 ghost use Rattle.trace_run.specs.Calls.{call_of, calls_of};
-ghost use Rattle.listing.specs.Lines.{answer_pieces as answer_pieces_of, bad_line, end_line, ending_lines, outcome_for, outcome_line, record_pieces as record_pieces_of};
+ghost use Rattle.listing.specs.Lines.{answer_pieces as answer_pieces_of, bad_line, end_line, ending_lines, outcome_for};
+ghost use Rattle.listing.specs.Lines.{outcome_line, record_pieces as record_pieces_of};
 ghost use Rattle.listing.specs.Outcomes.{AddsOutcomes, after_one, answers_left, next_outcome, recorded};
 ghost use Rattle.trace_run.specs.Reading.{ending_of};
 

@@ -4,7 +4,8 @@ use Rattle.std.proofs.lemmas.Bool.Decides.{nat_tests}
 use Rattle.std.proofs.lemmas.List.{map-append}
 use Rattle.std.proofs.lemmas.List.Folds.{list_any-append}
 use Rattle.std.proofs.lemmas.Map.Views.{any-filter_same}
-use Rattle.messages.specs.Messages.{AreDistinct, MessageNumbers, has_number, is_under_way, message_numbers, may_send_answer, without}
+use Rattle.messages.specs.Messages.{AreDistinct, MessageNumbers, has_number, is_under_way, message_numbers, may_send_answer}
+use Rattle.messages.specs.Messages.{without}
 use Rattle.messages.specs.declared.message.Message.{Message}
 
 distinct_push : (messages : List MessageNumbers) (m : MessageNumbers)

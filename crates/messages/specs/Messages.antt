@@ -1,5 +1,6 @@
 -- Messages under way, and what the calls on them answer and change.
-use Rattle.std.specs.Prelude.{◌≡◌, ℕ, ⊤, Bool, false, not, if◌then◌else◌, ◌==◌, List, [], ◌∷◌, ◌++◌, length, nat_le, Ok, Err, Option, Result, is_ok}
+use Rattle.std.specs.Prelude.{◌≡◌, ℕ, ⊤, Bool, false, not, if◌then◌else◌, ◌==◌, List, [], ◌∷◌, ◌++◌, length, nat_le, Ok, Err}
+use Rattle.std.specs.Prelude.{Option, Result, is_ok}
 use Rattle.std.specs.List.{filter, find, list_any}
 use Rattle.stamps.specs.Stamp.{Timestamp, stamp_of, zero_stamp}
 use Rattle.messages.specs.declared.message.Message.{Message}

@@ -1,7 +1,8 @@
 // The messages under way.
 ghost use Rattle.std.specs.Prelude.{◌≡◌, ◌≤◌, [], is_some, length, map};
 ghost use Rattle.std.specs.Option.{option_copied, option_map};
-ghost use Rattle.messages.specs.Messages.{AreDistinct, after_sending, is_under_way, message_numbers, message_of, most_under_way, may_send_answer, without};
+ghost use Rattle.messages.specs.Messages.{AreDistinct, after_sending, is_under_way, message_numbers, message_of, most_under_way};
+ghost use Rattle.messages.specs.Messages.{may_send_answer, without};
 ghost use Rattle.refusals.specs.Refusals.{shown};
 ghost use Rattle.store.specs.Page.{after_cut, cut_answer};
 

@@ -1,7 +1,11 @@
 -- The refusals by number, and how a contract speaks of an answer that may be one.
 use Rattle.std.specs.Prelude.{ℕ, Ok, Err, Result}
 use Rattle.refusals.specs.declared.refusal.Refusal.{Refusal}
-use Rattle.refusals.specs.declared.refusal.Refusal.TheVariants.{UnknownKind, CutShort, MalformedTag, SettingOutOfRange, MisplacedSetUp, OtherKeyKind, NoSuchNode, ReadingOutOfRange, ClockFellBack, CounterSpent, NumberUnderWay, TooManyUnderWay, NumberNotUnderWay, OtherAddressee, MessageTooFarAhead, StoreFull, VersionPresent, NotSettled, NoRoom}
+use Rattle.refusals.specs.declared.refusal.Refusal.TheVariants.{UnknownKind, CutShort, MalformedTag, SettingOutOfRange}
+use Rattle.refusals.specs.declared.refusal.Refusal.TheVariants.{MisplacedSetUp, OtherKeyKind, NoSuchNode, ReadingOutOfRange}
+use Rattle.refusals.specs.declared.refusal.Refusal.TheVariants.{ClockFellBack, CounterSpent, NumberUnderWay, TooManyUnderWay}
+use Rattle.refusals.specs.declared.refusal.Refusal.TheVariants.{NumberNotUnderWay, OtherAddressee, MessageTooFarAhead, StoreFull}
+use Rattle.refusals.specs.declared.refusal.Refusal.TheVariants.{VersionPresent, NotSettled, NoRoom}
 
 abbrev pub number_of : Refusal → ℕ
 -- the kind byte of a record is above the last kind

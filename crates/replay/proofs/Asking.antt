@@ -1,5 +1,6 @@
 -- A question's answer may be written behind the history behind which its recorder stands.
-use Rattle.std.proofs.Common.{◌≡◌, ◌≢◌, ◌<◌, ℕ, inl, inr, Bool, true, false, List, [], ◌∷◌, ◌++◌, length, Vec, Global, refl, ap, subst, append_assoc, arith}
+use Rattle.std.proofs.Common.{◌≡◌, ◌≢◌, ◌<◌, ℕ, inl, inr, Bool, true, false, List, [], ◌∷◌, ◌++◌, length, Vec, Global, refl, ap}
+use Rattle.std.proofs.Common.{subst, append_assoc, arith}
 use Rattle.std.specs.Prelude.{drop, if◌then◌else◌, nat_le, Some, None, Ok, Err, Option}
 use Rattle.std.specs.Cmp.{IsTotalOrder}
 use Rattle.std.specs.declared.cmp.Ordering.{Ordering}
@@ -85,7 +86,8 @@ module _ {B K : Type 0} (order : K → K → Ordering) (total : IsTotalOrder ord
         → let all = page order s.contents.versions stamp in
         let rows_then = (if fits then all ++ drop (length all) rows.items else rows.items) in
         BehindAnswer (question_entry (question.Cut stamp rows)
-        (CutAnswer (if settled then (if fits then Ok (length all) else Err 19) else Err 18) (if settled then rows_then else rows.items)))
+        (CutAnswer (if settled then (if fits then Ok (length all) else Err 19) else Err 18)
+        (if settled then rows_then else rows.items)))
     cut_told stamp rows false fits is = nothing
     cut_told stamp rows true false is = nothing
     cut_told stamp rows true true is =

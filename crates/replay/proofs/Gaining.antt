@@ -21,7 +21,8 @@ use Rattle.replay.specs.declared.replay.Run.{Run}
 use Rattle.replay.proofs.Whole.{replayed}
 use Rattle.store.specs.Contents.{Contents}
 
-module _ {B K : Type 0} (order : K → K → Ordering) (meaning : B → Meaning) (beside : Sample → Result ℕ ℕ → B → B → Type 0) (start : State B K) (before : List (Answer K)) where
+module _ {B K : Type 0} (order : K → K → Ordering) (meaning : B → Meaning) (beside : Sample → Result ℕ ℕ → B → B → Type 0)
+    (start : State B K) (before : List (Answer K)) where
   pub gains_none : GainsRun order meaning beside start start [] before before
   gains_none = record { gained = []; list = sym (append-nil before); told = []; run = NoCall }
 
@@ -49,7 +50,8 @@ module _ {K : Type 0} (answer : Question K → AnswerNumbers K) (before : List (
   }
 
 -- a list that gained the answers to the calls, and then those to the questions
-pub gains_answers : {B K : Type 0} (order : K → K → Ordering) → IsTotalOrder order → IsKeyOrder order → (meaning : B → Meaning) (beside : Sample → Result ℕ ℕ → B → B → Type 0)
+pub gains_answers : {B K : Type 0} (order : K → K → Ordering) → IsTotalOrder order → IsKeyOrder order
+    → (meaning : B → Meaning) (beside : Sample → Result ℕ ℕ → B → B → Type 0)
     → ((bank : B) → IsLawful (meaning bank)) → (settings : SettingNumbers) (bank : B) (contents : Contents K)
     → settings.nodes ≤ 16 → contents.versions ≡ [] → (run : Run K) {before after : List (Answer K)}
     → WasGiven order meaning beside (fresh_state settings bank contents) run before after
@@ -60,7 +62,8 @@ gains_answers order total law meaning beside lawful_bank settings bank contents 
     record {
       gained = calls.gained ++ questions.gained;
       list = rw (questions.list, calls.list) (append_assoc before calls.gained questions.gained);
-      replayed = replayed order total law meaning lawful_bank beside settings bank contents few empty run _ _ calls.told given.end calls.run
+      replayed = replayed order total law meaning lawful_bank beside settings bank contents few empty run _ _ calls.told given.end
+          calls.run
           (rw (map-append answer_numbers calls.gained questions.gained, questions.each) refl);
     }
 

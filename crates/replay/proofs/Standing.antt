@@ -1,10 +1,12 @@
 -- How a recorder stands behind a history.
-use Rattle.std.proofs.Common.{◌≡◌, ◌≢◌, ℕ, ◌+◌, ◌<◌, ◌≤◌, ◌⊎◌, inl, inr, Bool, true, false, List, [], ◌∷◌, ◌++◌, length, Ok, refl, sym, ◌∙◌, subst, arith}
+use Rattle.std.proofs.Common.{◌≡◌, ◌≢◌, ℕ, ◌+◌, ◌<◌, ◌≤◌, ◌⊎◌, inl, inr, Bool, true, false, List, [], ◌∷◌, ◌++◌, length, Ok, refl}
+use Rattle.std.proofs.Common.{sym, ◌∙◌, subst, arith}
 use Rattle.std.specs.declared.cmp.Ordering.{Ordering}
 use Rattle.std.proofs.lemmas.Bool.{cases_eq}
 use Rattle.std.proofs.lemmas.Bool.Decides.{nat_tests}
 use Rattle.std.proofs.lemmas.List.{append-nil, length-append, length-replicate, length-set}
-use Rattle.std.proofs.lemmas.List.{get_or_append_left, get_or_past, get_or_push, get_or-replicate, get_or-set_other, get_or-set_same}
+use Rattle.std.proofs.lemmas.List.{get_or_append_left, get_or_past, get_or_push, get_or-replicate, get_or-set_other}
+use Rattle.std.proofs.lemmas.List.{get_or-set_same}
 use Rattle.std.proofs.lemmas.List.Sums.{fold-append}
 use Rattle.clocks.specs.Bank.{IsAllowed, IsLawful, Meaning, Taken, look_answer}
 use Rattle.messages.specs.Messages.{MessageNumbers}
@@ -14,7 +16,8 @@ use Rattle.store.specs.Contents.{Contents}
 use Rattle.store.specs.Newest.{IsIn}
 use Rattle.history.specs.Events.{Event, Send, event_at, no_event, puts}
 use Rattle.history.specs.Before.{IsLastSend}
-use Rattle.history.specs.History.{Closed, Entered, Entry, IsHistory, IsStamped, MayBeWritten, MayEnter, Setup, events_of, last_stamp}
+use Rattle.history.specs.History.{Closed, Entered, Entry, IsHistory, IsStamped, MayBeWritten, MayEnter, Setup, events_of}
+use Rattle.history.specs.History.{last_stamp}
 use Rattle.history.proofs.Entries.{events_of-append}
 use Rattle.history.proofs.Last.{last_stamp-push}
 use Rattle.history.proofs.Lists.{each_push, in_append, one_more}

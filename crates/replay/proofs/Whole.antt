@@ -1,5 +1,6 @@
 -- Each call leaves its recorder standing behind what the history is told; so every run of a fresh recorder keeps the law.
-use Rattle.std.proofs.Common.{◌≡◌, ◌≢◌, ℕ, ◌+◌, ◌≤◌, ℤ, inl, inr, Bool, true, false, List, [], ◌∷◌, ◌++◌, map, refl, sym, subst, arith}
+use Rattle.std.proofs.Common.{◌≡◌, ◌≢◌, ℕ, ◌+◌, ◌≤◌, ℤ, inl, inr, Bool, true, false, List, [], ◌∷◌, ◌++◌, map, refl, sym, subst}
+use Rattle.std.proofs.Common.{arith}
 use Rattle.std.specs.Prelude.{Some, None, Ok, Err, Option, Result}
 use Rattle.std.specs.Cmp.{IsTotalOrder}
 use Rattle.std.specs.declared.cmp.Ordering.{Ordering}
@@ -172,7 +173,8 @@ module _ {B K : Type 0} (order : K → K → Ordering) (total : IsTotalOrder ord
     step beside (call.Ask q) bank takes = asked order total law meaning setup before q
 
   -- so that it does at the end of any run
-  pub stands_after : {beside : Sample → Result ℕ ℕ → B → B → Type 0} {start s : State B K} {calls : List (Call K)} {answers : List (AnswerNumbers K)} {history : List (Entry K)}
+  pub stands_after : {beside : Sample → Result ℕ ℕ → B → B → Type 0} {start s : State B K} {calls : List (Call K)}
+      {answers : List (AnswerNumbers K)} {history : List (Entry K)}
       → Behind [] start → IsRun order meaning beside start calls answers history s → Behind history s
   stands_after fresh NoCall = fresh
   stands_after {beside} {s = next} fresh (OneMore {told = told} {s = s} {c = c} run is) =
@@ -181,7 +183,8 @@ module _ {B K : Type 0} (order : K → K → Ordering) (total : IsTotalOrder ord
 
 module _ {B K : Type 0} (order : K → K → Ordering) (total : IsTotalOrder order) (law : IsKeyOrder order)
     (meaning : B → Meaning) (lawful_bank : (bank : B) → IsLawful (meaning bank)) where
-  pub replayed : (beside : Sample → Result ℕ ℕ → B → B → Type 0) (settings : SettingNumbers) (bank : B) (contents : Contents K) → settings.nodes ≤ 16 → contents.versions ≡ []
+  pub replayed : (beside : Sample → Result ℕ ℕ → B → B → Type 0) (settings : SettingNumbers) (bank : B) (contents : Contents K)
+      → settings.nodes ≤ 16 → contents.versions ≡ []
       → (run : Run K) (during answers : List (AnswerNumbers K)) (told : List (Entry K)) (end : State B K)
       → IsRun order meaning beside (fresh_state settings bank contents) run.calls.items during told end
       → answers ≡ during ++ map (end_answer order meaning run.closes end) run.questions.items

@@ -3,7 +3,8 @@ use Rattle.std.specs.Prelude.{ℕ, Bool, List, length, map, Option, Result}
 use Rattle.std.specs.declared.cmp.Ordering.{Ordering}
 use Rattle.clocks.specs.Bank.{Meaning}
 use Rattle.messages.specs.Messages.{MessageNumbers, message_numbers}
-use Rattle.recorder.specs.Answers.{after_page, loss_answer, note_answer, page_answer, put_answer, read_answer, receipt_answer, send_answer}
+use Rattle.recorder.specs.Answers.{after_page, loss_answer, note_answer, page_answer, put_answer, read_answer, receipt_answer}
+use Rattle.recorder.specs.Answers.{send_answer}
 use Rattle.recorder.specs.Changes.{after_loss, after_note, after_put, after_receipt, after_send}
 use Rattle.recorder.specs.State.{State, is_settled}
 use Rattle.refusals.specs.Refusals.{result_map, shown}
@@ -38,7 +39,8 @@ module _ {K : Type 0} (order : K → K → Ordering) where
   abbrev pub question_answer : (ℕ → Bool) → Contents K → List MessageNumbers → Question K → AnswerNumbers K
   question_answer settled contents messages (question.Read key stamp) = ReadAnswer (read_answer order settled contents key stamp)
   question_answer settled contents messages (question.Cut stamp rows) =
-      CutAnswer (page_answer order settled contents stamp (length rows.items)) (after_page order settled contents stamp rows.items)
+      CutAnswer (page_answer order settled contents stamp (length rows.items))
+      (after_page order settled contents stamp rows.items)
   question_answer settled contents messages (question.UnderWay rows) =
       UnderWayAnswer (cut_answer messages (length rows.items)) (after_cut messages (map message_numbers rows.items))
 

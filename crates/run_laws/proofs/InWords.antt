@@ -228,8 +228,15 @@ module _ {B K : Type 0} (order : K → K → Ordering) (meaning : B → Meaning)
         let later = λ (e : Entry K) (is_in : IsIn e told). in_append e told entry (inl is_in) in
         record {
           many = omega (arith, so_far.many, length-append answers (a ∷ []), length-append calls (c ∷ []));
-          versions = rw (pairs, filter_map-append by (zip calls answers) ((c, a) ∷ []), events_of-append told entry,
-              puts-append (events_of told) (events_of entry), so_far.versions, call_puts s told c, ← is.answer) refl;
+          versions = rw (
+            pairs,
+            filter_map-append by (zip calls answers) ((c, a) ∷ []),
+            events_of-append told entry,
+            puts-append (events_of told) (events_of entry),
+            so_far.versions,
+            call_puts s told c,
+            ← is.answer,
+          ) refl;
           each = λ p is_in. each_push (λ (p : Call K × AnswerNumbers K). Tells (told ++ entry) p.0 p.1) (c, a) (zip calls answers)
               (λ p is_in. tells_more told (told ++ entry) later p.0 p.1 (so_far.each p is_in))
               (rw is.answer (call_tells s told c)) p (subst (IsIn p) pairs is_in);
@@ -264,11 +271,16 @@ module _ {B K : Type 0} (order : K → K → Ordering) (meaning : B → Meaning)
       versions_are =
           let by = λ (p : Call K × AnswerNumbers K). version_by p.0 p.1 in
           let none = no_versions end_settled r.end.contents r.end.messages run.questions.items in
-          rw (events_of-append r.told (end_entries order meaning run.closes r.end run.questions.items), end_no_events,
-          append-nil (events_of r.told), pairs,
-          filter_map-append by (zip run.calls.items r.during)
-          (zip (map call.Ask run.questions.items) (map answer run.questions.items)),
-          none, append-nil (filter_map by (zip run.calls.items r.during)))
+          rw (
+            events_of-append r.told (end_entries order meaning run.closes r.end run.questions.items),
+            end_no_events,
+            append-nil (events_of r.told),
+            pairs,
+            filter_map-append by (zip run.calls.items r.during)
+                (zip (map call.Ask run.questions.items) (map answer run.questions.items)),
+            none,
+            append-nil (filter_map by (zip run.calls.items r.during)),
+          )
           calls_told.versions
 
       tells : (p : Call K × AnswerNumbers K) → IsIn p (zip (asked_of run) answers) → Tells whole p.0 p.1
@@ -322,9 +334,15 @@ module _ {B K : Type 0} (order : K → K → Ordering) (meaning : B → Meaning)
       kept (call.Ask q) a told = right q a told
 
       as_many : length answers ≡ length (asked_of run)
-      as_many = omega (arith, ap length r.all, calls_told.many, length-append r.during (map answer run.questions.items),
-          length-append run.calls.items (map call.Ask run.questions.items), length-map run.questions.items answer,
-          length-map run.questions.items (λ (q : Question K). call.Ask q))
+      as_many = omega (
+        arith,
+        ap length r.all,
+        calls_told.many,
+        length-append r.during (map answer run.questions.items),
+        length-append run.calls.items (map call.Ask run.questions.items),
+        length-map run.questions.items answer,
+        length-map run.questions.items (λ (q : Question K). call.Ask q),
+      )
 
       keeps : (c : Call K) (a : AnswerNumbers K) → IsIn (c, a) (zip (asked_of run) answers)
           → IsKept order meaning start (versions_by (asked_of run) answers) c a

@@ -1,5 +1,6 @@
 -- The stamps that are held: the first of sixteen, as many as there are nodes.
-use Rattle.std.proofs.Common.{◌≡◌, refl, ℕ, zero, suc, ◌∷◌, ◌<◌, ◌≤◌, List, length, map, replicate, take, ap, ◌∙◌, arith, slice_set}
+use Rattle.std.proofs.Common.{◌≡◌, refl, ℕ, zero, suc, ◌∷◌, ◌<◌, ◌≤◌, List, length, map, replicate, take, ap, ◌∙◌, arith}
+use Rattle.std.proofs.Common.{slice_set}
 use Rattle.std.proofs.lemmas.List.{length-map, length-take-le, map-set}
 use Rattle.std.proofs.Math.Seq.{take-set-lt}
 

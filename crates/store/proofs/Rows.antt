@@ -1,5 +1,6 @@
 -- What a walk over the keys still has to write.
-use Rattle.std.proofs.Common.{◌≡◌, ℕ, ◌+◌, ◌<◌, ◌≤◌, ◌++◌, List, [], ◌∷◌, get_or, length, drop, Some, None, Option, true, false, ◌≢◌, is_some, set, refl, ap, subst, sym, ◌∙◌, arith}
+use Rattle.std.proofs.Common.{◌≡◌, ℕ, ◌+◌, ◌<◌, ◌≤◌, ◌++◌, List, [], ◌∷◌, get_or, length, drop, Some, None, Option, true, false}
+use Rattle.std.proofs.Common.{◌≢◌, is_some, set, refl, ap, subst, sym, ◌∙◌, arith}
 use Rattle.std.specs.Cmp.{IsTotalOrder}
 use Rattle.std.specs.declared.cmp.Ordering.{Ordering}
 use Rattle.std.specs.List.{cons_option, filter_map}
@@ -13,13 +14,19 @@ use Rattle.store.specs.Versions.{IsSorted}
 use Rattle.store.specs.declared.version.Version.{Version}
 use Rattle.store.proofs.Walk.{keys_from_first, keys_from_next, keys_left}
 
-put_behind : {X : Type 0} (written old : List X) (x : X) → length written < length old → set (written ++ drop (length written) old) (length written) x ≡ (written ++ x ∷ []) ++ drop (length written + 1) old
+put_behind : {X : Type 0} (written old : List X) (x : X) → length written < length old
+    → set (written ++ drop (length written) old) (length written) x ≡ (written ++ x ∷ []) ++ drop (length written + 1) old
 put_behind written old x room =
-    rw (drop_more old (length written) x room) (set-append_seam written (get_or old (length written) x) (drop (length written + 1) old) x) ∙ sym (append_assoc written (x ∷ []) (drop (length written + 1) old))
+    rw (drop_more old (length written) x room)
+    (set-append_seam written (get_or old (length written) x) (drop (length written + 1) old) x)
+    ∙ sym (append_assoc written (x ∷ []) (drop (length written + 1) old))
 
 -- one more item behind those that are written
-put_next : {X : Type 0} (written old : List X) (count : ℕ) (x : X) → length written ≡ count → count < length old → set (written ++ drop count old) count x ≡ (written ++ x ∷ []) ++ drop (count + 1) old
-put_next written old count x as_many room = subst (λ n. set (written ++ drop n old) n x ≡ (written ++ x ∷ []) ++ drop (n + 1) old) as_many (put_behind written old x (omega (arith, as_many, room)))
+put_next : {X : Type 0} (written old : List X) (count : ℕ) (x : X) → length written ≡ count → count < length old
+    → set (written ++ drop count old) count x ≡ (written ++ x ∷ []) ++ drop (count + 1) old
+put_next written old count x as_many room =
+    subst (λ n. set (written ++ drop n old) n x ≡ (written ++ x ∷ []) ++ drop (n + 1) old) as_many
+    (put_behind written old x (omega (arith, as_many, room)))
 
 module _ {K : Type 0} (order : K → K → Ordering) (vs : List (Version K)) (stamp : ℕ) where
   -- the rows of the keys that are left where this one is next
@@ -44,41 +51,61 @@ module _ {K : Type 0} (order : K → K → Ordering) (vs : List (Version K)) (st
     pub rows_from_first : rows_left (first_key vs) ≡ page order vs stamp
     rows_from_first = ap (filter_map (λ key. newest order vs key stamp)) (sym (keys_from_first order total vs sorted))
 
-    pub rows_from_next : (key : K) → rows_left (Some key) ≡ cons_option (newest order vs key stamp) (rows_left (next_key order vs key))
-    rows_from_next key = ap (λ keys. cons_option (newest order vs key stamp) (filter_map (λ key. newest order vs key stamp) keys)) (keys_from_next order total key vs sorted)
+    pub rows_from_next : (key : K) → rows_left (Some key)
+        ≡ cons_option (newest order vs key stamp) (rows_left (next_key order vs key))
+    rows_from_next key = ap (λ keys. cons_option (newest order vs key stamp) (filter_map (λ key. newest order vs key stamp) keys))
+        (keys_from_next order total key vs sorted)
 
     pub fewer_left : (key : K) → length (keys_left order vs (next_key order vs key)) < length (keys_left order vs (Some key))
     fewer_left key = omega (arith, ap length (keys_from_next order total key vs sorted))
 
   module _ (total : IsTotalOrder order) (places count : ℕ) (key : K) (counted : HasCounted places count (Some key)) where
-    more_counted : (found : Option (Version K)) → newest order vs key stamp ≡ found → is_some found ≡ true → count ≢ places → HasCounted places (count + 1) (next_key order vs key)
+    more_counted : (found : Option (Version K)) → newest order vs key stamp ≡ found → is_some found ≡ true → count ≢ places
+        → HasCounted places (count + 1) (next_key order vs key)
     more_counted None is there room = absurd (both_ways false refl there)
     more_counted (Some v) is there room =
         let left = ap length (rows_from_next total counted.sorted key) in
-        record { sorted = counted.sorted; within = omega (arith, counted.within, room); rest = omega (arith, counted.rest, left, ap (λ found. length (cons_option found (rows_left (next_key order vs key)))) is) }
+        record {
+          sorted = counted.sorted;
+          within = omega (arith, counted.within, room);
+          rest =
+              omega (arith, counted.rest, left, ap (λ found. length (cons_option found (rows_left (next_key order vs key)))) is);
+        }
 
     -- a key with a row
-    pub row_counted : is_some (newest order vs key stamp) ≡ true → count ≢ places → HasCounted places (count + 1) (next_key order vs key)
+    pub row_counted : is_some (newest order vs key stamp) ≡ true → count ≢ places
+        → HasCounted places (count + 1) (next_key order vs key)
     row_counted = more_counted (newest order vs key stamp) refl
 
-    same_counted : (found : Option (Version K)) → newest order vs key stamp ≡ found → is_some found ≡ false → HasCounted places count (next_key order vs key)
+    same_counted : (found : Option (Version K)) → newest order vs key stamp ≡ found → is_some found ≡ false
+        → HasCounted places count (next_key order vs key)
     same_counted (Some v) is none = absurd (both_ways true none refl)
     same_counted None is none =
         let left = ap length (rows_from_next total counted.sorted key) in
-        record { sorted = counted.sorted; within = counted.within; rest = omega (arith, counted.rest, left, ap (λ found. length (cons_option found (rows_left (next_key order vs key)))) is) }
+        record {
+          sorted = counted.sorted;
+          within = counted.within;
+          rest =
+              omega (arith, counted.rest, left, ap (λ found. length (cons_option found (rows_left (next_key order vs key)))) is);
+        }
 
     -- a key without
     pub none_counted : is_some (newest order vs key stamp) ≡ false → HasCounted places count (next_key order vs key)
     none_counted = same_counted (newest order vs key stamp) refl
 
-  module _ (total : IsTotalOrder order) (old rows : List (Version K)) (count : ℕ) (key : K) (done : HasWritten old rows count (Some key)) where
+  module _ (total : IsTotalOrder order) (old rows : List (Version K)) (count : ℕ) (key : K)
+      (done : HasWritten old rows count (Some key)) where
     -- a key with a row, for which there is room
-    pub row_written : (v : Version K) → newest order vs key stamp ≡ Some v → length (page order vs stamp) ≤ length old → HasWritten old (set rows count v) (count + 1) (next_key order vs key)
+    pub row_written : (v : Version K) → newest order vs key stamp ≡ Some v → length (page order vs stamp) ≤ length old
+        → HasWritten old (set rows count v) (count + 1) (next_key order vs key)
     row_written v is room =
-        let left = rows_from_next total done.sorted key ∙ ap (λ found. cons_option found (rows_left (next_key order vs key))) is in
-        let page_is : done.written ++ v ∷ rows_left (next_key order vs key) ≡ page order vs stamp = ap (λ left. done.written ++ left) (sym left) ∙ done.rest in
+        let left = rows_from_next total done.sorted key
+        ∙ ap (λ found. cons_option found (rows_left (next_key order vs key))) is in
+        let page_is : done.written ++ v ∷ rows_left (next_key order vs key) ≡ page order vs stamp =
+        ap (λ left. done.written ++ left) (sym left) ∙ done.rest in
         let lengths = ap length page_is in
-        let fits : count < length old = omega (arith, lengths, room, done.as_many, length-append done.written (v ∷ rows_left (next_key order vs key))) in
+        let fits : count < length old =
+        omega (arith, lengths, room, done.as_many, length-append done.written (v ∷ rows_left (next_key order vs key))) in
         record {
           sorted = done.sorted;
           written = done.written ++ v ∷ [];
@@ -88,4 +115,13 @@ module _ {K : Type 0} (order : K → K → Ordering) (vs : List (Version K)) (st
         }
 
     pub none_written : newest order vs key stamp ≡ None → HasWritten old rows count (next_key order vs key)
-    none_written is = record { sorted = done.sorted; written = done.written; as_many = done.as_many; rows_are = done.rows_are; rest = ap (λ left. done.written ++ left) (sym (rows_from_next total done.sorted key ∙ ap (λ found. cons_option found (rows_left (next_key order vs key))) is)) ∙ done.rest }
+    none_written is = record {
+      sorted = done.sorted;
+      written = done.written;
+      as_many = done.as_many;
+      rows_are =
+          done.rows_are;
+      rest = ap (λ left. done.written ++ left)
+          (sym (rows_from_next total done.sorted key ∙ ap (λ found. cons_option found (rows_left (next_key order vs key))) is))
+          ∙ done.rest;
+    }

@@ -36,9 +36,10 @@ IsReadAnswer versions key stamp (Some v) = IsNewest versions key stamp v
 IsReadAnswer {K} versions key stamp None = (w : Version K) → IsIn w versions → w.key ≡ key → stamp < w.stamp
 
 -- the answer, and the only one of which the words hold
-pub record IsOnlyAnswer {K : Type 0} (versions : List (Version K)) (key : K) (stamp : ℕ) (found : Option (Version K)) : Type 0 where
-  pub answers : IsReadAnswer versions key stamp found
-  pub only : (other : Option (Version K)) → IsReadAnswer versions key stamp other → other ≡ found
+pub record IsOnlyAnswer {K : Type 0} (versions : List (Version K)) (key : K) (stamp : ℕ) (found : Option (Version K)) : Type 0
+  where
+    pub answers : IsReadAnswer versions key stamp found
+    pub only : (other : Option (Version K)) → IsReadAnswer versions key stamp other → other ≡ found
 
 -- For stores that search: the version that a search for a key found, if it is of this key.
 abbrev pub only_of : {K : Type 0} (order : K → K → Ordering) → K → Option (Version K) → Option (Version K)

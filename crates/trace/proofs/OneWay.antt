@@ -1,5 +1,7 @@
 -- A trace splits into records in one way, and `whole_of` gives it.
-use Rattle.std.proofs.Common.{◌≡◌, ℕ, zero, suc, ◌+◌, ◌<◌, ◌≤◌, List, [], ◌∷◌, ◌++◌, length, drop, Some, None, Ok, Err, sym, refl, ap, ◌∙◌, subst, append_assoc, append-nil, add-zero, arith, length-append, length-drop, take-append-drop, length-take-le, drop-drop, w32, Fits, FitsSigned}
+use Rattle.std.proofs.Common.{◌≡◌, ℕ, zero, suc, ◌+◌, ◌<◌, ◌≤◌, List, [], ◌∷◌, ◌++◌, length, drop, Some, None, Ok, Err, sym, refl}
+use Rattle.std.proofs.Common.{ap, ◌∙◌, subst, append_assoc, append-nil, add-zero, arith, length-append, length-drop}
+use Rattle.std.proofs.Common.{take-append-drop, length-take-le, drop-drop, w32, Fits, FitsSigned}
 use mir.Facts.{sfits_to_z}
 use Rattle.std.specs.Prelude.{All}
 use Rattle.std.proofs.lemmas.List.Elements.{All-nil, All-cons, All-head, All-tail}
@@ -34,8 +36,10 @@ decoded_in_range Note bs h u = (unsigned_lt 1 0 bs u, unsigned_lt 8 1 bs u)
 decoded_in_range Send bs h u = (unsigned_lt 1 0 bs u, unsigned_lt 8 1 bs u, unsigned_lt 1 9 bs u, unsigned_lt 4 10 bs u)
 decoded_in_range Receipt bs h u = (unsigned_lt 1 0 bs u, unsigned_lt 8 1 bs u, unsigned_lt 4 9 bs u)
 decoded_in_range Loss bs h u = unsigned_lt 4 0 bs u
-decoded_in_range PutPoint bs h u = (unsigned_lt 1 0 bs u, unsigned_lt 8 1 bs u, part_length 4 9 bs (omega arith), signed_fits 13 bs u)
-decoded_in_range PutTag bs h u = (unsigned_lt 1 0 bs u, unsigned_lt 8 1 bs u, part_length 16 9 bs (omega arith), signed_fits 25 bs u)
+decoded_in_range PutPoint bs h u =
+    (unsigned_lt 1 0 bs u, unsigned_lt 8 1 bs u, part_length 4 9 bs (omega arith), signed_fits 13 bs u)
+decoded_in_range PutTag bs h u =
+    (unsigned_lt 1 0 bs u, unsigned_lt 8 1 bs u, part_length 16 9 bs (omega arith), signed_fits 25 bs u)
 decoded_in_range ReadPoint bs h u = (unsigned_lt 8 0 bs u, part_length 4 8 bs (omega arith))
 decoded_in_range ReadTag bs h u = (unsigned_lt 8 0 bs u, part_length 16 8 bs (omega arith))
 
@@ -54,16 +58,19 @@ abbrev SplitsFrom : List ℕ → ℕ → List Content → Ending → Type 0
 SplitsFrom bs at ms complete = drop at bs ≡ trace_of ms
 SplitsFrom bs at ms (refused n k) = (drop at bs ≡ trace_of ms ++ drop k bs) × (finding_at bs k ≡ Err n)
 
-found_bytes : (bs : List ℕ) (at i : ℕ) (m : Content) → AllBytes bs → finding_at bs at ≡ Ok (Some (i, m)) → drop at bs ≡ encoding_of m ++ drop (at + size_of m) bs
+found_bytes : (bs : List ℕ) (at i : ℕ) (m : Content) → AllBytes bs → finding_at bs at ≡ Ok (Some (i, m))
+    → drop at bs ≡ encoding_of m ++ drop (at + size_of m) bs
 found_bytes bs at i m u e =
     let s = parse_says bs at i m e in
     sym (take-append-drop (size_of m) (drop at bs))
     ∙ ap (λ (t : List ℕ). t ++ drop (size_of m) (drop at bs)) (own_bytes bs at (kind_of m) m s.before s.kind s.enough u s.body)
     ∙ ap (λ (t : List ℕ). encoding_of m ++ t) (drop-drop (size_of m) at bs)
 
-splits_more : (bs : List ℕ) (at next : ℕ) (m : Content) (ms : List Content) (e : Ending) → drop at bs ≡ encoding_of m ++ drop next bs → SplitsFrom bs next ms e → SplitsFrom bs at (m ∷ ms) e
+splits_more : (bs : List ℕ) (at next : ℕ) (m : Content) (ms : List Content) (e : Ending)
+    → drop at bs ≡ encoding_of m ++ drop next bs → SplitsFrom bs next ms e → SplitsFrom bs at (m ∷ ms) e
 splits_more bs at next m ms complete d s = d ∙ ap (λ (t : List ℕ). encoding_of m ++ t) s
-splits_more bs at next m ms (refused n k) d s = (d ∙ ap (λ (t : List ℕ). encoding_of m ++ t) s.0 ∙ sym (append_assoc (encoding_of m) (trace_of ms) (drop k bs)), s.1)
+splits_more bs at next m ms (refused n k) d s =
+    (d ∙ ap (λ (t : List ℕ). encoding_of m ++ t) s.0 ∙ sym (append_assoc (encoding_of m) (trace_of ms) (drop k bs)), s.1)
 
 -- both facts of the trace from `at` on
 abbrev ReadsFrom : List ℕ → ℕ → Whole → Type 0
@@ -73,7 +80,8 @@ reads : (f : ℕ) (bs : List ℕ) (at : ℕ) → AllBytes bs → at ≤ length b
 reads zero bs at u h l = absurd (omega arith)
 reads (suc f) bs at u h l = go (finding_at bs at) refl (λ k p q. reads f bs k u q (omega arith))
   where
-    go : (a : Finding) → finding_at bs at ≡ a → ((k : ℕ) → at < k → k ≤ length bs → ReadsFrom bs k (whole_from f bs k)) → ReadsFrom bs at (whole_with at a (whole_from f bs (place_behind at a)))
+    go : (a : Finding) → finding_at bs at ≡ a → ((k : ℕ) → at < k → k ≤ length bs → ReadsFrom bs k (whole_from f bs k))
+        → ReadsFrom bs at (whole_with at a (whole_from f bs (place_behind at a)))
     go (Err n) e later = (All-nil IsInRange, (refl, e))
     go (Ok None) e later = (All-nil IsInRange, drop_all at bs (parse_none bs at e))
     go (Ok (Some (i, m))) e later =
@@ -102,11 +110,15 @@ read_all [] pre post bs a e = ap (rest bs) (sym (add-zero (length pre)))
 read_all (m ∷ ms) pre post bs a e =
     let at = length pre in
     let first : IsInRange m = All-head IsInRange m ms a in
-    let e2 : bs ≡ pre ++ (encoding_of m ++ (trace_of ms ++ post)) = e ∙ ap (λ (t : List ℕ). pre ++ t) (append_assoc (encoding_of m) (trace_of ms) post) in
-    let p : finding_at bs at ≡ Ok (Some (at, m)) = ap (λ (t : List ℕ). finding_at t at) e2 ∙ read_written m pre (trace_of ms ++ post) first in
+    let e2 : bs ≡ pre ++ (encoding_of m ++ (trace_of ms ++ post)) =
+    e ∙ ap (λ (t : List ℕ). pre ++ t) (append_assoc (encoding_of m) (trace_of ms) post) in
+    let p : finding_at bs at ≡ Ok (Some (at, m)) =
+    ap (λ (t : List ℕ). finding_at t at) e2 ∙ read_written m pre (trace_of ms ++ post) first in
     let h : at ≤ length bs = omega (arith, ap length e2, length-append pre (encoding_of m ++ (trace_of ms ++ post))) in
-    let q : length (pre ++ encoding_of m) ≡ at + size_of m = length-append pre (encoding_of m) ∙ ap (λ (n : ℕ). at + n) (encode_length m first) in
-    let later = read_all ms (pre ++ encoding_of m) post bs (All-tail IsInRange m ms a) (e2 ∙ sym (append_assoc pre (encoding_of m) (trace_of ms ++ post))) in
+    let q : length (pre ++ encoding_of m) ≡ at + size_of m =
+    length-append pre (encoding_of m) ∙ ap (λ (n : ℕ). at + n) (encode_length m first) in
+    let later = read_all ms (pre ++ encoding_of m) post bs (All-tail IsInRange m ms a)
+    (e2 ∙ sym (append_assoc pre (encoding_of m) (trace_of ms ++ post))) in
     let k : length (pre ++ encoding_of m) + length (trace_of ms) ≡ at + length (trace_of (m ∷ ms)) =
     omega (arith, length-append pre (encoding_of m), length-append (encoding_of m) (trace_of ms)) in
     rest_record bs at at m h p
@@ -114,7 +126,8 @@ read_all (m ∷ ms) pre post bs a e =
     ∙ ap (whole_with at (Ok (Some (at, m)))) later
     ∙ ap (λ (n : ℕ). whole_behind (m ∷ ms) (rest bs n)) k
 
-only_one : (bs : List ℕ) (ms : List Content) (e : Ending) → All IsInRange ms → Splits bs ms e → whole_of bs ≡ record { records = ms; ending = e }
+only_one : (bs : List ℕ) (ms : List Content) (e : Ending) → All IsInRange ms → Splits bs ms e
+    → whole_of bs ≡ record { records = ms; ending = e }
 only_one bs ms complete a s =
     let at = 0 + length (trace_of ms) in
     let r = rest_end bs at (parse_end bs at (omega (arith, ap length s))) in
@@ -124,7 +137,8 @@ only_one bs ms complete a s =
     ∙ ap (λ (t : List Content). record { records = t; ending = complete }) (append-nil ms)
 only_one bs ms (refused n at) a s =
     let b = parse_refused bs at n s.1 in
-    let k : 0 + length (trace_of ms) ≡ at = omega (arith, ap length s.0, length-append (trace_of ms) (drop at bs), length-drop at bs) in
+    let k : 0 + length (trace_of ms) ≡ at =
+    omega (arith, ap length s.0, length-append (trace_of ms) (drop at bs), length-drop at bs) in
     whole_rest bs
     ∙ read_all ms [] (drop at bs) bs a s.0
     ∙ ap (λ (i : ℕ). whole_behind ms (rest bs i)) k

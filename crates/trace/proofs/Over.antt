@@ -1,5 +1,6 @@
 -- A list written over another: what is known of `overlay`. The writer, which writes once, needs none of it.
-use Rattle.std.proofs.Common.{◌≡◌, ℕ, ◌+◌, ◌≤◌, List, ◌++◌, length, take, drop, sym, ap, ◌∙◌, append_assoc, add_assoc, arith, length-append, drop-drop, take_at}
+use Rattle.std.proofs.Common.{◌≡◌, ℕ, ◌+◌, ◌≤◌, List, ◌++◌, length, take, drop, sym, ap, ◌∙◌, append_assoc, add_assoc, arith}
+use Rattle.std.proofs.Common.{length-append, drop-drop, take_at}
 use lib.Seq.{drop-append-add}
 use Rattle.std.proofs.lemmas.List.{length-take-le}
 use Rattle.trace.specs.Writing.{overlay}
@@ -13,7 +14,8 @@ over_parts p q zs i e =
     ∙ ap (λ (t : List ℕ). p ++ (zs ++ t)) (drop-append-add p q (length zs))
 
 -- one write behind another is one write
-pub overlay_overlay : (place i : ℕ) (xs ys zs : List ℕ) → i ≡ place + length ys → place ≤ length xs → overlay i zs (overlay place ys xs) ≡ overlay place (ys ++ zs) xs
+pub overlay_overlay : (place i : ℕ) (xs ys zs : List ℕ) → i ≡ place + length ys → place ≤ length xs
+    → overlay i zs (overlay place ys xs) ≡ overlay place (ys ++ zs) xs
 unfolding overlay
 overlay_overlay place i xs ys zs e h =
     let p = take place xs ++ ys in
@@ -24,7 +26,8 @@ overlay_overlay place i xs ys zs e h =
     ∙ append_assoc (take place xs) ys (zs ++ drop (length zs) q)
     ∙ ap (λ (t : List ℕ). take place xs ++ (ys ++ (zs ++ t))) (drop-drop (length zs) (place + length ys) xs)
     ∙ ap (λ (t : List ℕ). take place xs ++ t) (sym (append_assoc ys zs (drop (place + length ys + length zs) xs)))
-    ∙ ap (λ (n : ℕ). take place xs ++ ((ys ++ zs) ++ drop n xs)) (add_assoc place (length ys) (length zs) ∙ ap (λ (n : ℕ). place + n) (sym (length-append ys zs)))
+    ∙ ap (λ (n : ℕ). take place xs ++ ((ys ++ zs) ++ drop n xs))
+    (add_assoc place (length ys) (length zs) ∙ ap (λ (n : ℕ). place + n) (sym (length-append ys zs)))
 
 -- for calls that write one behind another
 pub ruleset overlays = (overlay_overlay, length-append)

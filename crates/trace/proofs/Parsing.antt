@@ -1,5 +1,6 @@
 -- What `finding_at` answers, by what the bytes at a place are.
-use Rattle.std.proofs.Common.{◌≡◌, ℕ, ◌+◌, ◌<◌, ◌≤◌, List, length, get_or, drop, Some, None, Ok, Err, Option, ap, ◌∙◌, sym, arith, length-drop}
+use Rattle.std.proofs.Common.{◌≡◌, ℕ, ◌+◌, ◌<◌, ◌≤◌, List, length, get_or, drop, Some, None, Ok, Err, Option, ap, ◌∙◌, sym, arith}
+use Rattle.std.proofs.Common.{length-drop}
 use Rattle.std.proofs.lemmas.Bool.{lt-leb, le-ltb}
 use Rattle.std.proofs.lemmas.Bool.Decides.{nat_tests}
 use Rattle.trace.specs.declared.kind.Kind.{Kind}
@@ -11,12 +12,14 @@ pub kind_decoded : (k : Kind) (body : List ℕ) → kind_of (content_from k body
 kind_decoded k body = grind arith
 
 -- a record of a known kind with its whole body is found
-pub parse_found : (bs : List ℕ) (at : ℕ) (k : Kind) → at < length bs → kind_at (get_or bs at 0) ≡ Some k → body_len_of k ≤ length (drop (at + 1) bs)
+pub parse_found : (bs : List ℕ) (at : ℕ) (k : Kind) → at < length bs → kind_at (get_or bs at 0) ≡ Some k
+    → body_len_of k ≤ length (drop (at + 1) bs)
     → finding_at bs at ≡ Ok (Some (at, content_from k (drop (at + 1) bs)))
 parse_found bs at k h e l = rw (lt-leb (length bs) at h, e, le-ltb (length (drop (at + 1) bs)) (body_len_of k) l)
 
 -- the same of a record that was read from there
-pub record_found : (bs : List ℕ) (at : ℕ) (k : Kind) (m : Content) → at < length bs → kind_at (get_or bs at 0) ≡ Some k → body_len_of k ≤ length (drop (at + 1) bs)
+pub record_found : (bs : List ℕ) (at : ℕ) (k : Kind) (m : Content) → at < length bs → kind_at (get_or bs at 0) ≡ Some k
+    → body_len_of k ≤ length (drop (at + 1) bs)
     → m ≡ content_from k (drop (at + 1) bs) → Ok (Some (at, m)) ≡ finding_at bs at
 record_found bs at k m h e l d = rw d (sym (parse_found bs at k h e l))
 
@@ -28,7 +31,8 @@ pub record Says (bs : List ℕ) (at i : ℕ) (m : Content) : Type 0 where
   pub enough : body_len_of (kind_of m) ≤ length (drop (at + 1) bs)
 
 -- the same of what follows a byte of kind
-says_behind : (at i : ℕ) (m : Content) (rest : List ℕ) (o : Option Kind) → finding_for at rest o ≡ Ok (Some (i, m)) → (o ≡ Some (kind_of m)) × (m ≡ content_from (kind_of m) rest) × (body_len_of (kind_of m) ≤ length rest)
+says_behind : (at i : ℕ) (m : Content) (rest : List ℕ) (o : Option Kind) → finding_for at rest o ≡ Ok (Some (i, m))
+    → (o ≡ Some (kind_of m)) × (m ≡ content_from (kind_of m) rest) × (body_len_of (kind_of m) ≤ length rest)
 says_behind at i m rest None e = absurd (grind arith)
 says_behind at i m rest (Some k) e =
     let body : m ≡ content_from k rest = grind (arith, nat_tests) in

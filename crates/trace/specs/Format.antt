@@ -1,5 +1,6 @@
 -- What the bytes of a trace say at a place.
-use Rattle.std.specs.Prelude.{◌≡◌, ℕ, ◌+◌, if◌then◌else◌, List, length, take, drop, Some, None, Ok, Err, Option, Result, nat_le, nat_lt, slice_index}
+use Rattle.std.specs.Prelude.{◌≡◌, ℕ, ◌+◌, if◌then◌else◌, List, length, take, drop, Some, None, Ok, Err, Option, Result, nat_le}
+use Rattle.std.specs.Prelude.{nat_lt, slice_index}
 use Rattle.std.specs.Option.{option_map}
 use Rattle.trace.specs.declared.kind.Kind.{Kind}
 use Rattle.trace.specs.declared.kind.Kind.TheVariants.{SetUp, Note, Send, Receipt, Loss, PutPoint, PutTag, ReadPoint, ReadTag}
@@ -9,7 +10,8 @@ use Rattle.trace.specs.declared.records.Record.{Record}
 use Rattle.trace.specs.declared.records.Record.TheVariants as variant
 use Rattle.trace.specs.Numbers.{unsigned_at, signed_at}
 use Rattle.trace.specs.Kinds.{kind_at, body_len_of}
-use Rattle.trace.specs.Contents.{Content, set_up, note, send, receipt, loss, put_point, put_tag, read_point, read_tag, key_bytes, content_of, kind_of, size_of, encoding_of}
+use Rattle.trace.specs.Contents.{Content, set_up, note, send, receipt, loss, put_point, put_tag, read_point, read_tag, key_bytes}
+use Rattle.trace.specs.Contents.{content_of, kind_of, size_of, encoding_of}
 
 -- the w bytes from place i on
 abbrev pub part : ℕ → ℕ → List ℕ → List ℕ

@@ -1,5 +1,6 @@
 -- A record written over a part of a buffer.
-use Rattle.std.specs.Prelude.{ℕ, ◌+◌, Bool, if◌then◌else◌, List, ◌++◌, length, take, drop, Some, None, Ok, Err, Option, Result, nat_le}
+use Rattle.std.specs.Prelude.{ℕ, ◌+◌, Bool, if◌then◌else◌, List, ◌++◌, length, take, drop, Some, None, Ok, Err, Option, Result}
+use Rattle.std.specs.Prelude.{nat_le}
 use Rattle.trace.specs.Contents.{Content, size_of, encoding_of}
 use Rattle.trace.specs.Format.{Finding, part}
 

@@ -1,5 +1,6 @@
 -- Trace clocks leave a recorder no choice: its answers to any calls are those of `trace_answers`.
-use Rattle.std.proofs.Common.{◌≡◌, ℕ, inl, inr, List, [], ◌∷◌, ◌++◌, map, Ok, Err, Result, refl, ap, ◌∙◌, subst, append_assoc, arith}
+use Rattle.std.proofs.Common.{◌≡◌, ℕ, inl, inr, List, [], ◌∷◌, ◌++◌, map, Ok, Err, Result, refl, ap, ◌∙◌, subst, append_assoc}
+use Rattle.std.proofs.Common.{arith}
 use Rattle.std.specs.declared.cmp.Ordering.{Ordering}
 use Rattle.std.proofs.lemmas.Bool.{cases_eq}
 use Rattle.std.proofs.lemmas.Bool.Decides.{nat_tests}
@@ -101,7 +102,8 @@ module _ {B K : Type 0} (order : K → K → Ordering) (highs : B → ℕ → �
       → answers ++ trace_answers order kept (by_highs highs s) rest
       ≡ trace_answers order kept (by_highs highs start) (calls ++ rest))
 
-  step : {beside : Sample → Result ℕ ℕ → B → B → Type 0} {s next : State B K} {c : Call K} {a : AnswerNumbers K} → IsCalled order meaning beside s c a next
+  step : {beside : Sample → Result ℕ ℕ → B → B → Type 0} {s next : State B K} {c : Call K} {a : AnswerNumbers K}
+      → IsCalled order meaning beside s c a next
       → Follows (backstep s.bank) s (c ∷ []) (a ∷ []) next
   step {beside} {s} {next} {c} is =
       let bank = taken_bank s next.bank beside c is.reading in
@@ -109,7 +111,8 @@ module _ {B K : Type 0} (order : K → K → Ordering) (highs : B → ℕ → �
       ∙ ap (after_call order (clocks s) (by_highs highs s) c) bank.0 in
       (bank.1, λ rest. rw (is.answer, same_answer s c, change) refl)
 
-  follows : {beside : Sample → Result ℕ ℕ → B → B → Type 0} {start end : State B K} {calls : List (Call K)} {answers : List (AnswerNumbers K)} {told : List (Entry K)}
+  follows : {beside : Sample → Result ℕ ℕ → B → B → Type 0} {start end : State B K} {calls : List (Call K)}
+      {answers : List (AnswerNumbers K)} {told : List (Entry K)}
       → IsRun order meaning beside start calls answers told end → Follows (backstep start.bank) start calls answers end
   follows NoCall = (refl, λ rest. refl)
   follows {end = next} (OneMore {calls} {answers} {s = s} {c = c} {a} run is) =
@@ -120,7 +123,8 @@ module _ {B K : Type 0} (order : K → K → Ordering) (highs : B → ℕ → �
       (one.0, λ rest. rw (append_assoc answers (a ∷ []) _, append_assoc calls (c ∷ []) rest) (all rest))
 
 -- Where a bank means trace clocks, with these highs and this backstep, a run's answers are the one list that these give.
-pub traced : {B K : Type 0} {beside : Sample → Result ℕ ℕ → B → B → Type 0} (order : K → K → Ordering) (meaning : B → Meaning) (highs : B → ℕ → ℕ) (backstep : B → ℕ)
+pub traced : {B K : Type 0} {beside : Sample → Result ℕ ℕ → B → B → Type 0} (order : K → K → Ordering) (meaning : B → Meaning)
+    (highs : B → ℕ → ℕ) (backstep : B → ℕ)
     → ((bank : B) → meaning bank ≡ trace_meaning (highs bank) (backstep bank))
     → (start : State B K) (calls : List (Call K)) (answers : List (AnswerNumbers K)) (told : List (Entry K)) (end : State B K)
     → IsRun order meaning beside start calls answers told end
@@ -131,7 +135,8 @@ traced {beside = beside} order meaning highs backstep shaped start calls answers
     rw (append-nil answers, append-nil calls) at (all.1 [])
 
 -- so from clocks of which nothing was taken yet, as a call of `replay` begins
-pub traced_from_fresh : {B K : Type 0} {beside : Sample → Result ℕ ℕ → B → B → Type 0} (order : K → K → Ordering) (meaning : B → Meaning)
+pub traced_from_fresh : {B K : Type 0} {beside : Sample → Result ℕ ℕ → B → B → Type 0} (order : K → K → Ordering)
+    (meaning : B → Meaning)
     → ((bank : B) → meaning bank ≡ trace_meaning (λ node. (meaning bank node).high) (meaning bank 0).backstep)
     → (settings : SettingNumbers) (bank : B) (contents : Contents K) (backstep : ℕ) → meaning bank ≡ fresh_trace backstep
     → (calls : List (Call K)) (answers : List (AnswerNumbers K)) (told : List (Entry K)) (end : State B K)
@@ -143,7 +148,8 @@ traced_from_fresh order meaning shaped settings bank contents backstep fresh cal
     (fresh_state settings bank contents) calls answers told end run)
 
 -- what `replay` adds to a list of answers that has none
-pub answers_traced : {B K : Type 0} {beside : Sample → Result ℕ ℕ → B → B → Type 0} (order : K → K → Ordering) (meaning : B → Meaning)
+pub answers_traced : {B K : Type 0} {beside : Sample → Result ℕ ℕ → B → B → Type 0} (order : K → K → Ordering)
+    (meaning : B → Meaning)
     → ((bank : B) → meaning bank ≡ trace_meaning (λ node. (meaning bank node).high) (meaning bank 0).backstep)
     → (settings : SettingNumbers) (bank : B) (contents : Contents K) (backstep : ℕ) → meaning bank ≡ fresh_trace backstep
     → (run : Run K) (before after : List (Answer K)) → run.questions.items ≡ [] → before ≡ []
@@ -151,6 +157,9 @@ pub answers_traced : {B K : Type 0} {beside : Sample → Result ℕ ℕ → B �
     → map answer_numbers after ≡ trace_answers order backstep (fresh_state settings fresh_highs contents) run.calls.items
 answers_traced order meaning shaped settings bank contents backstep fresh run before after q b g =
     let r = g.replayed in
-    let traced = traced_from_fresh order meaning shaped settings bank contents backstep fresh run.calls.items r.during r.told r.end r.calls in
+    let traced = traced_from_fresh order meaning shaped settings bank contents backstep fresh run.calls.items r.during r.told
+    r.end r.calls in
     let gained : after ≡ g.gained = g.list ∙ ap (λ (held : List (Answer _)). held ++ g.gained) b in
-    ap (map answer_numbers) gained ∙ r.all ∙ ap (λ (qs : List (Question _)). r.during ++ map (end_answer order meaning run.closes r.end) qs) q ∙ append-nil r.during ∙ traced
+    ap (map answer_numbers) gained ∙ r.all
+    ∙ ap (λ (qs : List (Question _)). r.during ++ map (end_answer order meaning run.closes r.end) qs) q ∙ append-nil r.during
+    ∙ traced

@@ -17,7 +17,8 @@ pub record AreRead (bs : List ℕ) (reader : Reader) (records : List Record) : T
 
 module _ {bs : List ℕ} {reader : Reader} {records : List Record} (g : AreRead bs reader records) where
   -- one more
-  pub read_more : (i : ℕ) (r : Record) (later : Reader) → next_finding reader ≡ Ok (Some (i, content_of r)) → reader_trace later ≡ reader_trace reader
+  pub read_more : (i : ℕ) (r : Record) (later : Reader) → next_finding reader ≡ Ok (Some (i, content_of r))
+      → reader_trace later ≡ reader_trace reader
       → reader_offset later ≡ place_behind (reader_offset reader) (next_finding reader) → AreRead bs later (records ++ r ∷ [])
   read_more i r later e t o =
       let at = reader_offset reader in
@@ -26,7 +27,8 @@ module _ {bs : List ℕ} {reader : Reader} {records : List Record} (g : AreRead 
       let behind : reader_offset later ≡ at + size_of m = o ∙ ap (place_behind at) e in
       let here = rest_record bs at i m h (rw (← g.same) e) in
       let moved : (map content_of records ++ m ∷ []) ++ (rest bs (at + size_of m)).records ≡ (whole_of bs).records =
-      append_assoc (map content_of records) (m ∷ []) (rest bs (at + size_of m)).records ∙ ap (λ (w : Whole). map content_of records ++ w.records) (sym here) ∙ g.list in
+      append_assoc (map content_of records) (m ∷ []) (rest bs (at + size_of m)).records
+      ∙ ap (λ (w : Whole). map content_of records ++ w.records) (sym here) ∙ g.list in
       record {
         list = rw (behind, map-append content_of records (r ∷ [])) moved;
         ending = rw behind (ap (λ (w : Whole). w.ending) (sym here) ∙ g.ending);

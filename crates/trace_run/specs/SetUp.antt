@@ -24,7 +24,8 @@ keys_answer key_kind = (if key_kind == 0 then Ok Points else (if key_kind == 1 t
 -- the set-up of a record: 5 if it is none, 4 if a number is out of its range
 abbrev pub set_up_answer : Content → Result SetUpNumbers ℕ
 set_up_answer (set_up nodes key_kind lead backstep) =
-    (if nat_le 1 nodes && (nat_le nodes most_nodes && (nat_le key_kind 1 && (nat_le lead day_millis && nat_le backstep day_millis)))
+    (if nat_le 1 nodes && (nat_le nodes most_nodes
+    && (nat_le key_kind 1 && (nat_le lead day_millis && nat_le backstep day_millis)))
     then Ok (record {
       settings = record { nodes = nodes; lead = lead };
       keys = (if key_kind == 0 then Points else Tags);

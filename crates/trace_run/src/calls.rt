@@ -102,10 +102,7 @@ fn sample_of(node: u8, raw: u64) -> Sample
 }
 
 // The calls of the records that are not refused before, in order.
-pub fn calls_for<K: TraceKey>(
-    heap: Global,
-    records: &[Record],
-) -> Result<Vec<Call<K>>, AllocError>
+pub fn calls_for<K: TraceKey>(heap: Global, records: &[Record]) -> Result<Vec<Call<K>>, AllocError>
     ensures { IfOk result (λ calls. calls.items ≡ calls_of K.form (map content_of records.now)) }
 {
     let mut calls = Vec::with_capacity(heap, records.len())?;

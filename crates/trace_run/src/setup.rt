@@ -4,8 +4,8 @@ ghost use Rattle.refusals.specs.Refusals.{result_map, shown};
 ghost use Rattle.trace.specs.Contents.{content_of};
 
 use clocks::backstep::Backstep;
-use stamper::settings::Settings;
 use refusals::refusal::Refusal;
+use stamper::settings::Settings;
 use trace::records::Record;
 
 // The kind of a trace's keys.

@@ -17,7 +17,8 @@ impl<B: ClockBank, K: KeyKind, S: VersionStore<K>> Open<B, K, S> {
     // some node's last stamp is below it, since the answer could still change.
     pub fn read(&self, key: K, stamp: u64) -> Result<Option<Version<K>>, Refusal>
         ensures answer { shown result ≡ read_answer K.cmp (is_settled self.now) self.now.contents key stamp }
-        ensures in_words { OnOk result (IsOnlyAnswer self.now.contents.versions key stamp (newest K.cmp self.now.contents.versions key stamp)) }
+        ensures in_words { let all = self.now.contents.versions in
+            OnOk result (IsOnlyAnswer all key stamp (newest K.cmp all key stamp)) }
     {
         self.check_settled(stamp)?;
         Ok(self.store.at(key, stamp))

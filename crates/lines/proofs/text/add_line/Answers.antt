@@ -12,10 +12,12 @@ returns-in_err-add_gap c =
 
 pub returns-in_err-add_piece : goal.returns-in_err-add_piece
 returns-in_err-add_piece c =
-    let way = gap_added c.args.pieces.now c.loop-place.place (Word SetUp) c.loop-place.invariant (omega arith) c.in_ok-add_gap.ensures in
+    let way = gap_added c.args.pieces.now c.loop-place.place (Word SetUp) c.loop-place.invariant (omega arith)
+    c.in_ok-add_gap.ensures in
     stop_in_room _ _ _ way refl c.in_err-add_piece.ensures c.from_residual-in_err-add_piece.ensures.0
 
 pub loop-place-preserved : goal.loop-place-preserved
 loop-place-preserved c =
-    let way = gap_added c.args.pieces.now c.loop-place.place (Word SetUp) c.loop-place.invariant (omega arith) c.in_ok-add_gap.ensures in
+    let way = gap_added c.args.pieces.now c.loop-place.place (Word SetUp) c.loop-place.invariant (omega arith)
+    c.in_ok-add_gap.ensures in
     step _ _ way refl c.in_ok-add_piece.ensures.adds

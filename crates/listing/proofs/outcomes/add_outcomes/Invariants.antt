@@ -5,4 +5,5 @@ use Rattle.listing.proofs.outcomes.add_outcomes.Given as goal
 
 abbrev pub invariant-loop-record : goal.invariant-loop-record
 invariant-loop-record g l =
-    IsLined g.K.TraceKey.form l.records (map answer_numbers l.answers) l.initial.text l.text l.record-index (map answer_numbers l.left) l.counts.accepted l.counts.refused
+    IsLined g.K.TraceKey.form l.records (map answer_numbers l.answers) l.initial.text l.text l.record-index
+    (map answer_numbers l.left) l.counts.accepted l.counts.refused

@@ -6,4 +6,5 @@ use Rattle.listing.proofs.run.add_run_in.Goals as goal
 
 pub add_outcomes-requires : goal.add_outcomes-requires
 add_outcomes-requires g c =
-    ap length c.deref.ensures.value ∙ sym (length-map c.in_ok-answers.answers.items answer_numbers) ∙ ap length c.in_ok-answers.ensures ∙ as_many g.K.TraceKey.form _ _ _ _
+    ap length c.deref.ensures.value ∙ sym (length-map c.in_ok-answers.answers.items answer_numbers)
+    ∙ ap length c.in_ok-answers.ensures ∙ as_many g.K.TraceKey.form _ _ _ _

@@ -12,5 +12,6 @@ loop-call-preserved g c =
       calls = rw (append_assoc c.loop-call.yielded (c.in-Some.call ∷ []) c.next.new.self.rest.items, ← taken) so_far.calls;
       len = omega (arith, c.push_reserved.ensures.len, ap length taken, so_far.len);
       capacity = rw c.push_reserved.ensures.capacity so_far.capacity;
-      run = gains_one _ _ _ _ _ {after = c.push_reserved.new.self.items} c.in-Some.call c.apply.result so_far.run c.apply.ensures c.push_reserved.ensures.items;
+      run = gains_one _ _ _ _ _ {after = c.push_reserved.new.self.items} c.in-Some.call c.apply.result so_far.run c.apply.ensures
+          c.push_reserved.ensures.items;
     }

@@ -9,5 +9,6 @@ invariant-loop-call g l = record {
   calls : l.yielded ++ l.call-iterator.rest.items ≡ l.fn.calls.items;
   len : vec_len l.answers + length l.call-iterator.rest.items ≡ vec_len l.fn.answers + length l.fn.calls.items;
   capacity : vec_capacity l.answers ≡ vec_capacity l.fn.answers;
-  run : GainsRun g.K.Ord.cmp g.B.ClockBank.meaning g.B.ClockBank.beside l.fn.recorder l.recorder l.yielded l.fn.answers.items l.answers.items;
+  run : GainsRun g.K.Ord.cmp g.B.ClockBank.meaning g.B.ClockBank.beside l.fn.recorder l.recorder l.yielded l.fn.answers.items
+      l.answers.items;
 }

@@ -17,7 +17,8 @@ pub bounds-nodes-place : goal.bounds-nodes-place
 bounds-nodes-place g c = within _ _ _ c.loop-link.invariant.tidy c.in-Some.is
 
 pub loop-link-smaller-then-is_up_to : goal.loop-link-smaller-then-is_up_to
-loop-link-smaller-then-is_up_to g c = (step_down _ _ _ _ c.loop-link.invariant.tidy c.in-Some.is c.index-nodes-place.is).right_smaller
+loop-link-smaller-then-is_up_to g c =
+    (step_down _ _ _ _ c.loop-link.invariant.tidy c.in-Some.is c.index-nodes-place.is).right_smaller
 
 pub loop-link-smaller : goal.loop-link-smaller
 loop-link-smaller g c = (step_down _ _ _ _ c.loop-link.invariant.tidy c.in-Some.is c.index-nodes-place.is).left_smaller
@@ -29,7 +30,8 @@ loop-link-preserved-then-is_up_to g c =
     record {
       tidy = step.right;
       sorted = parts.right;
-      same = rw (c.loop-link.invariant.same, ap walk step.whole) (last_right g.K.Ord.cmp g.met.K.Ord.total c.args.key c.args.stamp c.loop-link.last _ _ _ (sym c.if-is_up_to.ensures));
+      same = rw (c.loop-link.invariant.same, ap walk step.whole)
+          (last_right g.K.Ord.cmp g.met.K.Ord.total c.args.key c.args.stamp c.loop-link.last _ _ _ (sym c.if-is_up_to.ensures));
     }
 
 pub loop-link-preserved : goal.loop-link-preserved
@@ -39,14 +41,19 @@ loop-link-preserved g c =
     record {
       tidy = step.left;
       sorted = parts.left;
-      same = rw (c.loop-link.invariant.same, ap walk step.whole) (last_left g.K.Ord.cmp g.met.K.Ord.total c.args.key c.args.stamp c.loop-link.last _ _ _ parts.after (sym c.if-is_up_to.ensures));
+      same = rw (c.loop-link.invariant.same, ap walk step.whole)
+          (last_left g.K.Ord.cmp g.met.K.Ord.total c.args.key c.args.stamp c.loop-link.last _ _ _ parts.after
+          (sym c.if-is_up_to.ensures));
     }
 
 pub returns-clause-newest : goal.returns-clause-newest
 returns-clause-newest g c =
-    let last : last_or None (filter (is_up_to g.K.Ord.cmp c.args.key c.args.stamp) (walk (below c.args.nodes.now c.args.root))) ≡ c.loop-link.last = rw (c.loop-link.invariant.same, below_none _ _ c.in_default.is) in
-    sym (newest_is g.K.Ord.cmp g.met.K.Ord.total c.args.key c.args.stamp _ c.requires.sorted ∙ ap (only_of g.K.Ord.cmp c.args.key) last)
+    let last : last_or None (filter (is_up_to g.K.Ord.cmp c.args.key c.args.stamp) (walk (below c.args.nodes.now c.args.root)))
+    ≡ c.loop-link.last = rw (c.loop-link.invariant.same, below_none _ _ c.in_default.is) in
+    sym (newest_is g.K.Ord.cmp g.met.K.Ord.total c.args.key c.args.stamp _ c.requires.sorted
+    ∙ ap (only_of g.K.Ord.cmp c.args.key) last)
 
 pub returns-clause-in_words : goal.returns-clause-in_words
 returns-clause-in_words g c =
-    only_answer g.K.Ord.cmp g.met.K.Ord.total g.met.K.KeyKind.law _ c.args.key c.args.stamp c.requires.sorted _ (returns-clause-newest g c)
+    only_answer g.K.Ord.cmp g.met.K.Ord.total g.met.K.KeyKind.law _ c.args.key c.args.stamp c.requires.sorted _
+    (returns-clause-newest g c)

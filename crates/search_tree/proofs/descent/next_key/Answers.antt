@@ -27,7 +27,8 @@ loop-link-preserved-then-gt g c =
     record {
       tidy = step.left;
       sorted = parts.left;
-      same = rw (c.loop-link.invariant.same, ap walk step.whole) (next_key_left g.K.Ord.cmp g.met.K.Ord.total c.args.key c.loop-link.next _ _ _ after);
+      same = rw (c.loop-link.invariant.same, ap walk step.whole)
+          (next_key_left g.K.Ord.cmp g.met.K.Ord.total c.args.key c.loop-link.next _ _ _ after);
     }
 
 pub loop-link-preserved : goal.loop-link-preserved
@@ -39,7 +40,8 @@ loop-link-preserved g c =
     record {
       tidy = step.right;
       sorted = parts.right;
-      same = rw (c.loop-link.invariant.same, ap walk step.whole) (next_key_right g.K.Ord.cmp g.met.K.Ord.total c.args.key c.loop-link.next _ _ _ parts.before not_after);
+      same = rw (c.loop-link.invariant.same, ap walk step.whole)
+          (next_key_right g.K.Ord.cmp g.met.K.Ord.total c.args.key c.loop-link.next _ _ _ parts.before not_after);
     }
 
 pub returns : goal.returns

@@ -9,7 +9,8 @@ abbrev pub invariant-loop-link : goal.invariant-loop-link
 invariant-loop-link g l = record {
   tidy : IsTidy l.nodes l.link;
   sorted : IsSorted g.K.Ord.cmp (walk (below l.nodes l.link));
-  same : next_key g.K.Ord.cmp (walk (below l.nodes l.fn.root)) l.key ≡ option_or (next_key g.K.Ord.cmp (walk (below l.nodes l.link)) l.key) l.next;
+  same : next_key g.K.Ord.cmp (walk (below l.nodes l.fn.root)) l.key
+      ≡ option_or (next_key g.K.Ord.cmp (walk (below l.nodes l.link)) l.key) l.next;
 }
 
 abbrev pub decreases-loop-link : goal.decreases-loop-link

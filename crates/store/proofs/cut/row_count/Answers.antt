@@ -11,18 +11,25 @@ loop-next-init g c =
     record { sorted = sorted; within = omega arith; rest = rw c.first_key-next.ensures.key (omega (arith, rest)) }
 
 pub loop-next-smaller : goal.loop-next-smaller
-loop-next-smaller g c = rw (c.next_key-next.ensures, c.in-Some.is) (fewer_left g.K.Ord.cmp _ c.args.stamp g.met.K.Ord.total c.loop-next.invariant.sorted c.in-Some.key)
+loop-next-smaller g c = rw (c.next_key-next.ensures, c.in-Some.is)
+    (fewer_left g.K.Ord.cmp _ c.args.stamp g.met.K.Ord.total c.loop-next.invariant.sorted c.in-Some.key)
 
 pub loop-next-preserved : goal.loop-next-preserved
 loop-next-preserved g c =
-    let counted = subst (HasCounted g.K.Ord.cmp (g.S.VersionStore.contents c.args.store.now).versions c.args.stamp c.args.places c.loop-next.count) c.in-Some.is c.loop-next.invariant in
+    let counted = subst (HasCounted g.K.Ord.cmp (g.S.VersionStore.contents c.args.store.now).versions c.args.stamp c.args.places
+    c.loop-next.count) c.in-Some.is c.loop-next.invariant in
     elim c.if-is_some.branch [
-      | then-is_some+else-count-places w ↦ rw (c.next_key-next.ensures, w.count-is) (row_counted g.K.Ord.cmp _ c.args.stamp g.met.K.Ord.total _ _ _ counted (search rules) w.if-count-places.false)
-      | else-is_some w ↦ rw (c.next_key-next.ensures, w.count-is) (none_counted g.K.Ord.cmp _ c.args.stamp g.met.K.Ord.total _ _ _ counted (search rules))
+      | then-is_some+else-count-places w ↦
+          rw (c.next_key-next.ensures, w.count-is)
+          (row_counted g.K.Ord.cmp _ c.args.stamp g.met.K.Ord.total _ _ _ counted (search rules) w.if-count-places.false)
+      | else-is_some w ↦ rw (c.next_key-next.ensures, w.count-is)
+          (none_counted g.K.Ord.cmp _ c.args.stamp g.met.K.Ord.total _ _ _ counted (search rules))
     ]
 
 pub returns-then-count-places-clause-in_words : goal.returns-then-count-places-clause-in_words
-returns-then-count-places-clause-in_words g c = only_page g.K.Ord.cmp g.met.K.Ord.total g.met.K.KeyKind.law _ c.args.stamp c.loop-next.invariant.sorted
+returns-then-count-places-clause-in_words g c =
+    only_page g.K.Ord.cmp g.met.K.Ord.total g.met.K.KeyKind.law _ c.args.stamp c.loop-next.invariant.sorted
 
 pub returns-clause-in_words : goal.returns-clause-in_words
-returns-clause-in_words g c = only_page g.K.Ord.cmp g.met.K.Ord.total g.met.K.KeyKind.law _ c.args.stamp c.loop-next.invariant.sorted
+returns-clause-in_words g c = only_page g.K.Ord.cmp g.met.K.Ord.total g.met.K.KeyKind.law _ c.args.stamp
+    c.loop-next.invariant.sorted

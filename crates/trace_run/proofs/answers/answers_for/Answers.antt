@@ -6,4 +6,5 @@ pub returns : goal.returns
 returns g c =
     let calls = c.in_ok-calls_for.ensures in
     let gains = c.in_ok-replay.ensures.replayed in
-    rw (← calls) (answers_traced _ _ (λ bank. refl) _ _ _ _ c.new-bank.ensures _ _ _ c.new.ensures.items c.new-answers.ensures.items gains)
+    rw (← calls) (answers_traced _ _ (λ bank. refl) _ _ _ _ c.new-bank.ensures _ _ _ c.new.ensures.items
+    c.new-answers.ensures.items gains)

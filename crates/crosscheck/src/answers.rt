@@ -1,6 +1,6 @@
 // What is answered to a record.
 
-use crate::history::Newest;
+use crate::events::Newest;
 use crate::stamp_rules::Stamp;
 
 #[derive(Clone, Copy)]

@@ -7,18 +7,40 @@
 
 mod answers;
 mod decoder;
-mod history;
+mod encoder;
+mod events;
+mod habits;
 mod naive;
+mod plans;
+mod random;
 mod records;
 mod stamp_rules;
 mod tally;
+mod traces;
 
+use listing::report;
 use std::io;
+use tally::Tally;
+
+const SEED: u64 = 1;
+const TRACES: usize = 100;
 
 fn main(rt: HostRuntime) -> io::Result<()> {
     let heap = rt.alloc();
-    let mut text = String::new(heap);
-    let mut tally = tally::Tally::new();
-    naive::add_listing(&mut text, heap, &[], &mut tally)?;
-    rt.print(text.as_str())
+    let mut trace = Vec::new(heap);
+    let mut listed = String::new(heap);
+    let mut expected = String::new(heap);
+    let mut tally = Tally::new();
+    for number in 0..TRACES {
+        let plan = traces::write_trace(&mut trace, SEED, number)?;
+        listed.clear();
+        report::add_listing(&mut listed, heap, &trace)?;
+        expected.clear();
+        naive::add_listing(&mut expected, heap, &trace, &mut tally)?;
+        if listed.as_str() != expected.as_str() {
+            println!(rt; "{number} {}", plan.name())?;
+            return Ok(());
+        }
+    }
+    println!(rt; "{}", tally.reads)
 }

@@ -2,7 +2,7 @@
 
 use crate::answers::{Answer, EventWord};
 use crate::decoder::{Found, record_at};
-use crate::history::{Deed, Entry, Event, History};
+use crate::events::{Deed, Entry, Event, History};
 use crate::records::{Key, Record, Sample, SetUp};
 use crate::stamp_rules::{Stamp, own_stamp, receipt_stamp};
 use crate::tally::Tally;

@@ -92,8 +92,8 @@ const FULL_STORE: Habits = Habits {
     choices: [Put, Put, Put, Put, Put, Put, Put, Put, Put, Put, Put, Put, Put, Put, Put, Read],
     keys: 300,
     codes: Codes::Past(2_000),
-    slips: 400,
-    key_slips: 400,
+    slips: 80,
+    key_slips: 80,
     ..MIXED
 };
 
@@ -151,6 +151,7 @@ impl Habits {
             Plan::Extremes => EXTREMES,
             Plan::LateReads => LATE_READS,
             Plan::Keys => Habits { keys: 30, key_slips: 3, slips: 200, ..MIXED },
+            Plan::Faulty => Habits { slips: 4, key_slips: 5, ..MIXED },
             Plan::Sixteen => Habits { records: 200, slips: 200, codes: Codes::Past(200), ..MIXED },
             Plan::Longest | Plan::TooLong => LONGEST,
             Plan::LongestMixed => Habits { records: 20_000, slips: 200, keys: 40, messages: 100, ..MIXED },

@@ -1,14 +1,20 @@
-// Compares the listing with a second, naive one, on written examples and on generated traces.
+// Compares the listing with a second, naive one, on written examples and on generated traces. Two arguments, a number of traces and a
+// seed, take the place of those of the gate.
 //
 // The functions here have no clauses: they are proved to be safe and to return, and no more. This crate is evidence from outside.
 // `naive` was written from docs/RULES.md alone, and clauses that cite the definitions of the other crates would make it the same
 // program again.
+//
+// Of the refusals 10, 17 and 19 never come of a trace. 17 and 19 are not the listing's; and for 10 a counter of 65535 is needed, which
+// takes as many events, while 65,536 bytes have room for a set-up and 6,552 of the shortest.
 #![tactic(auto)]
 
 mod answers;
+mod comparison;
 mod decoder;
 mod encoder;
 mod events;
+mod examples;
 mod habits;
 mod naive;
 mod plans;
@@ -18,29 +24,52 @@ mod stamp_rules;
 mod tally;
 mod traces;
 
-use listing::report;
+use comparison::Comparison;
+use std::env;
 use std::io;
-use tally::Tally;
+use std::process::ExitCode;
+use std::rt::Env;
 
+const TRACES: usize = 3_000;
 const SEED: u64 = 1;
-const TRACES: usize = 100;
 
-fn main(rt: HostRuntime) -> io::Result<()> {
-    let heap = rt.alloc();
-    let mut trace = Vec::new(heap);
-    let mut listed = String::new(heap);
-    let mut expected = String::new(heap);
-    let mut tally = Tally::new();
-    for number in 0..TRACES {
-        let plan = traces::write_trace(&mut trace, SEED, number)?;
-        listed.clear();
-        report::add_listing(&mut listed, heap, &trace)?;
-        expected.clear();
-        naive::add_listing(&mut expected, heap, &trace, &mut tally)?;
-        if listed.as_str() != expected.as_str() {
-            println!(rt; "{number} {}", plan.name())?;
-            return Ok(());
+// How many traces, and from which seed.
+fn asked(rt: &(impl Env + AllocGlobal)) -> io::Result<(usize, u64)> {
+    let mut words = env::args(rt)?;
+    words.next();
+    let traces = words.next().and_then(|word| word.parse::<usize>().ok());
+    let seed = words.next().and_then(|word| word.parse::<u64>().ok());
+    Ok((traces.unwrap_or(TRACES), seed.unwrap_or(SEED)))
+}
+
+// Whether all is the same.
+fn compare(rt: &(impl Print + AllocGlobal), traces: usize, seed: u64) -> io::Result<bool> {
+    let mut comparison = Comparison::new(rt.alloc());
+    if let Some(name) = comparison.wrong_example()? {
+        println!(rt; "wrong example: {name}")?;
+        comparison.print_parting(rt)?;
+        return Ok(false);
+    }
+    let difference = comparison.first_difference(seed, traces)?;
+    comparison.tally.print(rt)?;
+    match difference {
+        None => {
+            rt.println("no difference")?;
+            Ok(true)
+        }
+        Some((number, plan)) => {
+            println!(rt; "difference in trace {number}, {}", plan.name())?;
+            comparison.print_parting(rt)?;
+            Ok(false)
         }
     }
-    println!(rt; "{}", tally.reads)
+}
+
+fn main(rt: HostRuntime) -> io::Result<ExitCode> {
+    let (traces, seed) = asked(&rt)?;
+    if compare(&rt, traces, seed)? {
+        Ok(ExitCode::SUCCESS)
+    } else {
+        Ok(ExitCode::FAILURE)
+    }
 }

@@ -189,6 +189,8 @@ struct Run {
     set_up: Option<SetUp>,
     accepted: usize,
     refused: usize,
+    // The reads that were refused with 18.
+    unsettled: Vec<(u64, Key)>,
 }
 
 // What a record comes to: a numbered line, or the end of the listing.
@@ -219,6 +221,19 @@ impl Run {
         }
     }
 
+    // Keeps a read that is not settled, and counts one that is answered after all.
+    fn note_read(&mut self, record: &Record, answer: &Answer, tally: &mut Tally) -> Result<(), AllocError> {
+        let Record::Read { code, key } = *record else {
+            return Ok(());
+        };
+        match answer {
+            Answer::Refused(18) => self.unsettled.push((code, key))?,
+            Answer::Read(_) | Answer::None if self.unsettled.contains(&(code, key)) => tally.add_late_read(),
+            _ => {}
+        }
+        Ok(())
+    }
+
     // The number of the line that comes next.
     fn next_number(&self) -> usize {
         self.accepted.saturating_add(self.refused).saturating_add(1)
@@ -242,6 +257,7 @@ fn add_records(text: &mut String, run: &mut Run, trace: &[u8], tally: &mut Tally
         match run.take(&record)? {
             Outcome::Line(answer) => {
                 tally.add_answer(&answer);
+                run.note_read(&record, &answer, tally)?;
                 add_answer(text, run.next_number(), &answer)?;
                 run.count(&answer);
             }
@@ -263,6 +279,7 @@ pub fn add_listing(text: &mut String, heap: Global, trace: &[u8], tally: &mut Ta
         set_up: None,
         accepted: 0,
         refused: 0,
+        unsettled: Vec::new(heap),
     };
     add_records(text, &mut run, trace, tally)?;
     tally.add_end();

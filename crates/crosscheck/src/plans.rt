@@ -20,6 +20,8 @@ pub enum Plan {
     LateReads,
     // Keys of the other kind, and tags that are no names.
     Keys,
+    // Records with several faults at once.
+    Faulty,
     // One node, which sends to itself.
     Alone,
     // Sixteen nodes.
@@ -61,7 +63,7 @@ const USUAL: [Plan; 24] = [
     Plan::CutRecord,
     Plan::UnknownKind,
     Plan::Noise,
-    Plan::Mixed,
+    Plan::Faulty,
     Plan::Ties,
     Plan::Messages,
     Plan::Ahead,
@@ -96,6 +98,7 @@ impl Plan {
             Plan::Extremes => "extremes",
             Plan::LateReads => "late reads",
             Plan::Keys => "keys",
+            Plan::Faulty => "faulty",
             Plan::Alone => "alone",
             Plan::Sixteen => "sixteen",
             Plan::BadOpening => "bad opening",

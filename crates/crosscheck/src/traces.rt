@@ -53,6 +53,11 @@ fn as_number_32(number: u64) -> u32 {
     u32::try_from(number).unwrap_or(u32::MAX)
 }
 
+// Numbers that lie far apart for numbers that lie close.
+fn spread(number: u64) -> u32 {
+    as_number_32(number).wrapping_mul(2_654_435_769)
+}
+
 fn draw_set_up(random: &mut Random, plan: Plan) -> SetUp {
     let nodes = match plan {
         Plan::Alone => 1,
@@ -83,7 +88,7 @@ fn draw_bad_set_up(random: &mut Random) -> SetUp {
 }
 
 fn draw_start(random: &mut Random) -> u64 {
-    let near_the_last = HIGHEST_READING.wrapping_sub(random.below(40));
+    let near_the_last = HIGHEST_READING.wrapping_sub(random.below(400));
     random.one_of(&[1, 30, 1_000, 70_000, 1_000_000_000_000, near_the_last])
 }
 
@@ -199,7 +204,7 @@ impl Source {
 
     fn key_of_kind(&mut self, kind: u8, number: u64) -> Key {
         if kind == 0 {
-            Key::Point(as_number_32(number))
+            Key::Point(spread(number))
         } else if self.random.is_one_in(self.habits.key_slips) {
             Key::Tag(self.malformed_tag(number))
         } else {
@@ -215,7 +220,7 @@ impl Source {
     }
 
     fn message(&mut self) -> u32 {
-        as_number_32(self.random.below(self.habits.messages))
+        spread(self.random.below(self.habits.messages))
     }
 
     // The node that a message is mostly sent to.
@@ -296,6 +301,15 @@ impl Source {
         read
     }
 
+    // A set-up that comes too late: the same once more, or one that would be out of range too.
+    fn later_set_up(&mut self) -> SetUp {
+        if self.random.is_one_in(2) {
+            self.set_up
+        } else {
+            draw_bad_set_up(&mut self.random)
+        }
+    }
+
     fn record(&mut self) -> Record {
         self.now = self.now.wrapping_add(self.random.below(self.habits.pace));
         let place = usize::from(self.random.byte_below(16)) % 16;
@@ -306,7 +320,7 @@ impl Source {
             Choice::Loss => Record::Loss(self.message()),
             Choice::Put => self.put(),
             Choice::Read => self.read(),
-            Choice::SetUp => Record::SetUp(self.set_up),
+            Choice::SetUp => Record::SetUp(self.later_set_up()),
         }
     }
 

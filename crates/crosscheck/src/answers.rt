@@ -2,31 +2,14 @@
 
 use crate::events::Newest;
 use crate::stamp_rules::Stamp;
-
-#[derive(Clone, Copy)]
-pub enum EventWord {
-    Note,
-    Send,
-    Receipt,
-    Put,
-}
-
-impl EventWord {
-    pub fn text(self) -> &'static str {
-        match self {
-            EventWord::Note => "note",
-            EventWord::Send => "send",
-            EventWord::Receipt => "receipt",
-            EventWord::Put => "put",
-        }
-    }
-}
+use crate::tally::Count;
 
 #[derive(Clone, Copy)]
 pub enum Answer {
     SetUp,
+    // Of a note, a send, a receipt or a put.
     Event {
-        word: EventWord,
+        word: Count,
         node: u8,
         stamp: Stamp,
         drift: u64,

@@ -3,8 +3,7 @@
 use crate::encoder::add_record;
 use crate::examples::{self, EXAMPLES, PUT, PUT_RECORD};
 use crate::naive;
-use crate::plans::Plan;
-use crate::tally::Tally;
+use crate::tally::{Count, Tally};
 use crate::traces::write_trace;
 use listing::report;
 use std::alloc::{AllocError, Global};
@@ -81,7 +80,7 @@ impl Comparison {
 
     // The name of an example that one of the two lists otherwise than it is written.
     pub fn wrong_example(&mut self) -> Result<Option<&'static str>, AllocError> {
-        for example in &EXAMPLES {
+        for example in EXAMPLES {
             examples::write_bytes(&mut self.trace, example.trace)?;
             if !self.agrees()? || self.naive.as_str() != example.text {
                 return Ok(Some(example.name));
@@ -96,11 +95,11 @@ impl Comparison {
         Ok(None)
     }
 
-    // The number and the plan of the first of so many traces that are listed in two ways.
-    pub fn first_difference(&mut self, seed: u64, traces: usize) -> Result<Option<(usize, Plan)>, AllocError> {
+    // The number and the plan's name of the first of so many traces that are listed in two ways.
+    pub fn first_difference(&mut self, seed: u64, traces: usize) -> Result<Option<(usize, &'static str)>, AllocError> {
         for number in 0..traces {
             let plan = write_trace(&mut self.trace, seed, number)?;
-            self.tally.add_trace();
+            self.tally.add(Count::Trace);
             if !self.agrees()? {
                 return Ok(Some((number, plan)));
             }

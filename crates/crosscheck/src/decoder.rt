@@ -2,148 +2,110 @@
 
 use crate::records::{Key, Record, Sample, SetUp};
 
+// How many bytes the body of a record of each kind has.
+const LENGTHS: [usize; 9] = [10, 9, 14, 13, 4, 17, 29, 12, 24];
+
 // What stands at a place of a trace: a record and the place behind it, the end, or bytes that are refused.
+#[derive(Clone, Copy)]
 pub enum Found {
     Record(Record, usize),
     End,
     Refused(u8),
 }
 
-// The first four bytes of a body, and those behind.
-fn number_32(body: &[u8]) -> Option<(u32, &[u8])> {
-    let (field, rest) = body.split_first_chunk::<4>()?;
-    Some((u32::from_be_bytes(*field), rest))
+// The number that stands in some bytes of a body, the highest first.
+fn number(body: &[u8], from: usize, width: usize) -> u64 {
+    let mut number = 0u64;
+    for byte in body.iter().skip(from).take(width) {
+        number = number.wrapping_mul(256).wrapping_add(u64::from(*byte));
+    }
+    number
 }
 
-fn number_64(body: &[u8]) -> Option<(u64, &[u8])> {
-    let (field, rest) = body.split_first_chunk::<8>()?;
-    Some((u64::from_be_bytes(*field), rest))
+fn number_32(body: &[u8], from: usize) -> u32 {
+    u32::try_from(number(body, from, 4)).unwrap_or(0)
 }
 
-fn number_8(body: &[u8]) -> Option<(u8, &[u8])> {
-    let (field, rest) = body.split_first()?;
-    Some((*field, rest))
+fn number_8(body: &[u8], from: usize) -> u8 {
+    body.get(from).copied().unwrap_or(0)
 }
 
-fn sample(body: &[u8]) -> Option<(Sample, &[u8])> {
-    let (node, rest) = number_8(body)?;
-    let (raw, rest) = number_64(rest)?;
-    Some((Sample { node, raw }, rest))
+fn sample(body: &[u8]) -> Sample {
+    Sample {
+        node: number_8(body, 0),
+        raw: number(body, 1, 8),
+    }
 }
 
-fn point(body: &[u8]) -> Option<(Key, &[u8])> {
-    let (point, rest) = number_32(body)?;
-    Some((Key::Point(point), rest))
+fn point(body: &[u8], from: usize) -> Key {
+    Key::Point(number_32(body, from))
 }
 
-fn tag(body: &[u8]) -> Option<(Key, &[u8])> {
-    let (field, rest) = body.split_first_chunk::<16>()?;
-    Some((Key::Tag(*field), rest))
+fn tag(body: &[u8], from: usize) -> Key {
+    let mut tag = [0; 16];
+    for (place, byte) in tag.iter_mut().zip(body.iter().skip(from)) {
+        *place = *byte;
+    }
+    Key::Tag(tag)
 }
 
-type Parsed<'a> = Option<(Record, &'a [u8])>;
-
-fn set_up(body: &[u8]) -> Parsed<'_> {
-    let (nodes, rest) = number_8(body)?;
-    let (key_kind, rest) = number_8(rest)?;
-    let (lead, rest) = number_32(rest)?;
-    let (backstep, rest) = number_32(rest)?;
-    let set_up = SetUp {
-        nodes,
-        key_kind,
-        lead,
-        backstep,
-    };
-    Some((Record::SetUp(set_up), rest))
+fn set_up(body: &[u8]) -> Record {
+    Record::SetUp(SetUp {
+        nodes: number_8(body, 0),
+        key_kind: number_8(body, 1),
+        lead: number_32(body, 2),
+        backstep: number_32(body, 6),
+    })
 }
 
-fn note(body: &[u8]) -> Parsed<'_> {
-    let (sample, rest) = sample(body)?;
-    Some((Record::Note(sample), rest))
-}
-
-fn send(body: &[u8]) -> Parsed<'_> {
-    let (sample, rest) = sample(body)?;
-    let (to, rest) = number_8(rest)?;
-    let (message, rest) = number_32(rest)?;
-    let send = Record::Send {
-        sample,
-        to,
-        message,
-    };
-    Some((send, rest))
-}
-
-fn receipt(body: &[u8]) -> Parsed<'_> {
-    let (sample, rest) = sample(body)?;
-    let (message, rest) = number_32(rest)?;
-    Some((Record::Receipt { sample, message }, rest))
-}
-
-fn loss(body: &[u8]) -> Parsed<'_> {
-    let (message, rest) = number_32(body)?;
-    Some((Record::Loss(message), rest))
-}
-
-// The value of a put, whose sample and key were read.
-fn put_of(sample: Sample, key: Key, rest: &[u8]) -> Parsed<'_> {
-    let (value, rest) = number_32(rest)?;
-    let put = Record::Put {
-        sample,
+fn put(body: &[u8], key: Key, value_from: usize) -> Record {
+    Record::Put {
+        sample: sample(body),
         key,
-        value: value.cast_signed(),
-    };
-    Some((put, rest))
+        value: number_32(body, value_from).cast_signed(),
+    }
 }
 
-fn put_by_point(body: &[u8]) -> Parsed<'_> {
-    let (sample, rest) = sample(body)?;
-    let (key, rest) = point(rest)?;
-    put_of(sample, key, rest)
+fn read(body: &[u8], key: Key) -> Record {
+    Record::Read {
+        code: number(body, 0, 8),
+        key,
+    }
 }
 
-fn put_by_tag(body: &[u8]) -> Parsed<'_> {
-    let (sample, rest) = sample(body)?;
-    let (key, rest) = tag(rest)?;
-    put_of(sample, key, rest)
-}
-
-fn read_by_point(body: &[u8]) -> Parsed<'_> {
-    let (code, rest) = number_64(body)?;
-    let (key, rest) = point(rest)?;
-    Some((Record::Read { code, key }, rest))
-}
-
-fn read_by_tag(body: &[u8]) -> Parsed<'_> {
-    let (code, rest) = number_64(body)?;
-    let (key, rest) = tag(rest)?;
-    Some((Record::Read { code, key }, rest))
-}
-
-// The record of a kind up to 8 at the head of what follows its byte of kind, if there are bytes enough.
-fn parse(kind: u8, body: &[u8]) -> Parsed<'_> {
+// The record that a whole body of a kind up to 8 has.
+fn record(kind: u8, body: &[u8]) -> Record {
     match kind {
         0 => set_up(body),
-        1 => note(body),
-        2 => send(body),
-        3 => receipt(body),
-        4 => loss(body),
-        5 => put_by_point(body),
-        6 => put_by_tag(body),
-        7 => read_by_point(body),
-        _ => read_by_tag(body),
+        1 => Record::Note(sample(body)),
+        2 => Record::Send {
+            sample: sample(body),
+            to: number_8(body, 9),
+            message: number_32(body, 10),
+        },
+        3 => Record::Receipt {
+            sample: sample(body),
+            message: number_32(body, 9),
+        },
+        4 => Record::Loss(number_32(body, 0)),
+        5 => put(body, point(body, 9), 13),
+        6 => put(body, tag(body, 9), 25),
+        7 => read(body, point(body, 8)),
+        _ => read(body, tag(body, 8)),
     }
 }
 
 pub fn record_at(trace: &[u8], place: usize) -> Found {
-    let Some((kind, rest)) = trace.get(place..).and_then(|left| left.split_first()) else {
+    let Some(kind) = trace.get(place) else {
         return Found::End;
     };
-    if *kind > 8 {
+    let Some(length) = LENGTHS.get(usize::from(*kind)) else {
         return Found::Refused(1);
-    }
-    match parse(*kind, rest) {
-        Some((record, behind)) => Found::Record(record, trace.len().saturating_sub(behind.len())),
+    };
+    let body_from = place.saturating_add(1);
+    let behind = body_from.saturating_add(*length);
+    match trace.get(body_from..behind) {
+        Some(body) => Found::Record(record(*kind, body), behind),
         None => Found::Refused(2),
     }
 }

@@ -57,13 +57,6 @@ pub struct History {
 }
 
 impl Entry {
-    fn event(&self) -> Option<&Event> {
-        match self {
-            Entry::Event(event) => Some(event),
-            Entry::Loss(_) => None,
-        }
-    }
-
     // The event, if it is one of the node.
     fn event_of(&self, node: u8) -> Option<&Event> {
         match self {
@@ -174,10 +167,8 @@ impl History {
     pub fn count_puts(&self) -> usize {
         let mut count = 0usize;
         for entry in &self.entries {
-            if let Some(event) = entry.event() {
-                if matches!(event.deed, Deed::Put { .. }) {
-                    count = count.saturating_add(1);
-                }
+            if matches!(entry, Entry::Event(event) if matches!(event.deed, Deed::Put { .. })) {
+                count = count.saturating_add(1);
             }
         }
         count
@@ -194,7 +185,7 @@ impl History {
     }
 
     pub fn newest(&self, key: Key, code: u64) -> Option<Newest> {
-        let mut newest: Option<Newest> = None;
+        let mut newest = None;
         for entry in &self.entries {
             if let Some(version) = entry.version_of(key, code) {
                 newest = Some(newer(newest, version));
@@ -204,24 +195,20 @@ impl History {
     }
 }
 
-// The newer of the newest so far and one more version.
+// The newest so far or one more version, whichever is newer.
 fn newer(newest: Option<Newest>, version: Version) -> Newest {
     let Some(so_far) = newest else {
         return Newest { version, ties: 0 };
     };
-    if version.stamp > so_far.version.stamp {
+    let (code, code_so_far) = (version.stamp.code(), so_far.version.stamp.code());
+    let ties = so_far.ties.saturating_add(1);
+    if code > code_so_far {
         Newest { version, ties: 0 }
-    } else if version.stamp < so_far.version.stamp {
+    } else if code < code_so_far {
         so_far
+    } else if version.node > so_far.version.node {
+        Newest { version, ties }
     } else {
-        let ties = so_far.ties.saturating_add(1);
-        if version.node > so_far.version.node {
-            Newest { version, ties }
-        } else {
-            Newest {
-                version: so_far.version,
-                ties,
-            }
-        }
+        Newest { ties, ..so_far }
     }
 }

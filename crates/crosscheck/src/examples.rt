@@ -4,6 +4,7 @@ use crate::records::{Key, Record, Sample};
 use crate::stamp_rules::{Stamp, own_stamp, receipt_stamp};
 use std::alloc::AllocError;
 
+#[derive(Clone, Copy)]
 pub struct Example {
     pub name: &'static str,
     pub trace: &'static str,

@@ -15,7 +15,6 @@ mod decoder;
 mod encoder;
 mod events;
 mod examples;
-mod habits;
 mod naive;
 mod plans;
 mod random;
@@ -37,9 +36,10 @@ const SEED: u64 = 1;
 fn asked(rt: &(impl Env + AllocGlobal)) -> io::Result<(usize, u64)> {
     let mut words = env::args(rt)?;
     words.next();
-    let traces = words.next().and_then(|word| word.parse::<usize>().ok());
-    let seed = words.next().and_then(|word| word.parse::<u64>().ok());
-    Ok((traces.unwrap_or(TRACES), seed.unwrap_or(SEED)))
+    let (Some(traces), Some(seed)) = (words.next(), words.next()) else {
+        return Ok((TRACES, SEED));
+    };
+    Ok((traces.parse::<usize>().unwrap_or(TRACES), seed.parse::<u64>().unwrap_or(SEED)))
 }
 
 // Whether all is the same.
@@ -58,7 +58,7 @@ fn compare(rt: &(impl Print + AllocGlobal), traces: usize, seed: u64) -> io::Res
             Ok(true)
         }
         Some((number, plan)) => {
-            println!(rt; "difference in trace {number}, {}", plan.name())?;
+            println!(rt; "difference in trace {number}, {plan}")?;
             comparison.print_parting(rt)?;
             Ok(false)
         }

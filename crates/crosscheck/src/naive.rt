@@ -1,11 +1,11 @@
 // A second listing, written from docs/RULES.md alone. It keeps the whole history and goes through it for every answer.
 
-use crate::answers::{Answer, EventWord};
+use crate::answers::Answer;
 use crate::decoder::{Found, record_at};
 use crate::events::{Deed, Entry, Event, History};
 use crate::records::{Key, Record, Sample, SetUp};
 use crate::stamp_rules::{Stamp, own_stamp, receipt_stamp};
-use crate::tally::Tally;
+use crate::tally::{Count, Tally};
 use std::alloc::{AllocError, Global};
 
 const LONGEST: usize = 65_536;
@@ -103,7 +103,7 @@ fn read(history: &History, set_up: &SetUp, code: u64, key: &Key) -> Result<Answe
 }
 
 // An event's answer, which is entered in the history, or the refusal.
-fn answer_event(history: &mut History, node: u8, stamped: Stamped, word: EventWord, deed: Deed) -> Result<Answer, AllocError> {
+fn answer_event(history: &mut History, node: u8, stamped: Stamped, word: Count, deed: Deed) -> Result<Answer, AllocError> {
     let (stamp, reading) = match stamped {
         Ok(stamped) => stamped,
         Err(number) => return Ok(Answer::Refused(number)),
@@ -144,20 +144,20 @@ fn answer(history: &mut History, set_up: &SetUp, record: &Record) -> Result<Answ
         Record::SetUp(_) => Ok(Answer::Refused(5)),
         Record::Note(sample) => {
             let stamped = note(history, set_up, sample);
-            answer_event(history, sample.node, stamped, EventWord::Note, Deed::Note)
+            answer_event(history, sample.node, stamped, Count::Note, Deed::Note)
         }
         Record::Send { sample, to, message } => {
             let stamped = send(history, set_up, sample, to, message);
-            answer_event(history, sample.node, stamped, EventWord::Send, Deed::Send { to, message })
+            answer_event(history, sample.node, stamped, Count::Send, Deed::Send { to, message })
         }
         Record::Receipt { sample, message } => {
             let stamped = receipt(history, set_up, sample, message);
-            answer_event(history, sample.node, stamped, EventWord::Receipt, Deed::Receipt { message })
+            answer_event(history, sample.node, stamped, Count::Receipt, Deed::Receipt { message })
         }
         Record::Loss(message) => answer_loss(history, message),
         Record::Put { sample, key, value } => {
             let stamped = put(history, set_up, sample, &key);
-            answer_event(history, sample.node, stamped, EventWord::Put, Deed::Put { key, value })
+            answer_event(history, sample.node, stamped, Count::Put, Deed::Put { key, value })
         }
         Record::Read { code, key } => Ok(answer_read(history, set_up, code, &key)),
     }
@@ -167,7 +167,7 @@ fn add_answer(text: &mut String, number: usize, answer: &Answer) -> Result<(), A
     match answer {
         Answer::SetUp => writeln!(text, "{number} setup"),
         Answer::Event { word, node, stamp, drift } => {
-            let (word, time, counter) = (word.text(), stamp.time, stamp.counter);
+            let (word, time, counter) = (word.name(), stamp.time, stamp.counter);
             writeln!(text, "{number} {word} {node} {time}.{counter} drift {drift}")
         }
         Answer::Loss(message) => writeln!(text, "{number} loss {message}"),
@@ -228,7 +228,7 @@ impl Run {
         };
         match answer {
             Answer::Refused(18) => self.unsettled.push((code, key))?,
-            Answer::Read(_) | Answer::None if self.unsettled.contains(&(code, key)) => tally.add_late_read(),
+            Answer::Read(_) | Answer::None if self.unsettled.contains(&(code, key)) => tally.add(Count::Late),
             _ => {}
         }
         Ok(())
@@ -271,7 +271,7 @@ fn add_records(text: &mut String, run: &mut Run, trace: &[u8], tally: &mut Tally
 // Adds the listing of a trace to the text, and its answers to the tally.
 pub fn add_listing(text: &mut String, heap: Global, trace: &[u8], tally: &mut Tally) -> Result<(), AllocError> {
     if trace.len() > LONGEST {
-        tally.add_too_long();
+        tally.add(Count::TooLong);
         return writeln!(text, "too long");
     }
     let mut run = Run {
@@ -282,7 +282,7 @@ pub fn add_listing(text: &mut String, heap: Global, trace: &[u8], tally: &mut Ta
         unsettled: Vec::new(heap),
     };
     add_records(text, &mut run, trace, tally)?;
-    tally.add_end();
+    tally.add(Count::End);
     let (accepted, refused) = (run.accepted, run.refused);
     writeln!(text, "end {accepted} {refused}")
 }

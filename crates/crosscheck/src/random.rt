@@ -24,7 +24,7 @@ impl Random {
     }
 
     pub fn byte(&mut self) -> u8 {
-        self.next().to_be_bytes()[0]
+        (self.next() & 0xff) as u8
     }
 
     pub fn byte_below(&mut self, bound: u8) -> u8 {
@@ -32,8 +32,7 @@ impl Random {
     }
 
     pub fn number_32(&mut self) -> u32 {
-        let [a, b, c, d, ..] = self.next().to_be_bytes();
-        u32::from_be_bytes([a, b, c, d])
+        (self.next() & 0xffff_ffff) as u32
     }
 
     // True once in so many times.
@@ -44,9 +43,6 @@ impl Random {
     // One of some numbers; 0 if there are none.
     pub fn one_of(&mut self, numbers: &[u64]) -> u64 {
         let place = self.below(numbers.len() as u64);
-        usize::try_from(place)
-            .ok()
-            .and_then(|place| numbers.get(place).copied())
-            .unwrap_or(0)
+        numbers.get(place as usize).copied().unwrap_or(0)
     }
 }

@@ -1,6 +1,6 @@
 // Stamps, and the stamp that an event gets.
 
-#[derive(Clone, Copy, PartialEq, Eq, PartialOrd, Ord)]
+#[derive(Clone, Copy, PartialEq, Eq)]
 pub struct Stamp {
     pub time: u64,
     pub counter: u64,

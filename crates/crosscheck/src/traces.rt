@@ -1,8 +1,7 @@
 // Generated traces.
 
 use crate::encoder::add_record;
-use crate::habits::{Choice, Clocks, Codes, Habits};
-use crate::plans::Plan;
+use crate::plans::{Choice, Clocks, Codes, Plan, Shape};
 use crate::random::Random;
 use crate::records::{Key, Record, Sample, SetUp};
 use std::alloc::AllocError;
@@ -27,26 +26,14 @@ const BODIES: [(u8, usize); 9] = [
 // In how many places the bodies can be cut off, and that of a set-up once more.
 const CUTS: usize = 142;
 
-// From here on a record of ten bytes may be too long.
-const NEAR_LONGEST: usize = 65_527;
-
 // What a trace's records are drawn from; with the time that goes on, and the read that was asked last.
 #[derive(Drop)]
 struct Source {
     random: Random,
     set_up: SetUp,
-    habits: Habits,
+    plan: &'static Plan,
     now: u64,
     asked: Option<Record>,
-}
-
-fn draw_nodes(random: &mut Random) -> u8 {
-    match random.below(4) {
-        0 => 1,
-        1 => 16,
-        2 => random.byte_below(16).saturating_add(1),
-        _ => random.byte_below(3).saturating_add(2),
-    }
 }
 
 fn as_number_32(number: u64) -> u32 {
@@ -58,25 +45,18 @@ fn spread(number: u64) -> u32 {
     as_number_32(number).wrapping_mul(2_654_435_769)
 }
 
-fn draw_set_up(random: &mut Random, plan: Plan) -> SetUp {
-    let nodes = match plan {
-        Plan::Alone => 1,
-        Plan::Sixteen => 16,
-        Plan::Ties | Plan::LateReads => random.byte_below(3).saturating_add(2),
-        Plan::FullStore => random.byte_below(4).saturating_add(1),
-        _ => draw_nodes(random),
-    };
+fn draw_set_up(random: &mut Random, plan: &Plan) -> SetUp {
     SetUp {
-        nodes,
+        nodes: u8::try_from(random.one_of(&plan.nodes)).unwrap_or(1),
         key_kind: random.byte_below(2),
         lead: as_number_32(random.one_of(&[0, 1, 5, 500, A_DAY])),
         backstep: as_number_32(random.one_of(&[0, 1, 4, 20, A_DAY])),
     }
 }
 
-// A set-up with one or more settings out of range.
-fn draw_bad_set_up(random: &mut Random) -> SetUp {
-    let mut set_up = draw_set_up(random, Plan::Mixed);
+// A set-up with a setting out of range.
+fn draw_bad_set_up(random: &mut Random, plan: &Plan) -> SetUp {
+    let mut set_up = draw_set_up(random, plan);
     match random.below(5) {
         0 => set_up.nodes = 0,
         1 => set_up.nodes = random.byte_below(239).saturating_add(17),
@@ -112,20 +92,20 @@ fn tag_of(number: u64) -> [u8; 16] {
 }
 
 impl Source {
-    fn new(plan: Plan, mut random: Random) -> Source {
+    fn new(plan: &'static Plan, mut random: Random) -> Source {
         let set_up = draw_set_up(&mut random, plan);
         let now = draw_start(&mut random);
         Source {
             random,
             set_up,
-            habits: Habits::of(plan),
+            plan,
             now,
             asked: None,
         }
     }
 
     fn is_slip(&mut self) -> bool {
-        self.random.is_one_in(self.habits.slips)
+        self.random.is_one_in(self.plan.slips)
     }
 
     fn node(&mut self) -> u8 {
@@ -174,7 +154,7 @@ impl Source {
         if self.is_slip() {
             return self.extreme_raw();
         }
-        match self.habits.clocks {
+        match self.plan.clocks {
             Clocks::Near => self.near(4, 4),
             Clocks::Exact => self.now,
             Clocks::Ahead => self.raw_ahead(node),
@@ -205,7 +185,7 @@ impl Source {
     fn key_of_kind(&mut self, kind: u8, number: u64) -> Key {
         if kind == 0 {
             Key::Point(spread(number))
-        } else if self.random.is_one_in(self.habits.key_slips) {
+        } else if self.random.is_one_in(self.plan.key_slips) {
             Key::Tag(self.malformed_tag(number))
         } else {
             Key::Tag(tag_of(number))
@@ -213,14 +193,14 @@ impl Source {
     }
 
     fn key(&mut self) -> Key {
-        let number = self.random.below(self.habits.keys);
-        let is_other = self.random.is_one_in(self.habits.key_slips);
+        let number = self.random.below(self.plan.keys);
+        let is_other = self.random.is_one_in(self.plan.key_slips);
         let kind = self.set_up.key_kind ^ u8::from(is_other);
         self.key_of_kind(kind, number)
     }
 
     fn message(&mut self) -> u32 {
-        spread(self.random.below(self.habits.messages))
+        spread(self.random.below(self.plan.messages))
     }
 
     // The node that a message is mostly sent to.
@@ -274,7 +254,7 @@ impl Source {
         if self.is_slip() {
             return self.extreme_code();
         }
-        let time = match self.habits.codes {
+        let time = match self.plan.codes {
             Codes::Past(most) => self.now.saturating_sub(self.random.below(most)),
             Codes::Near => self.near(9, 3),
             Codes::Extreme => return self.extreme_code(),
@@ -288,7 +268,7 @@ impl Source {
     }
 
     fn read(&mut self) -> Record {
-        if self.random.is_one_in(self.habits.repeats)
+        if self.random.is_one_in(self.plan.repeats)
             && let Some(read) = self.asked
         {
             return read;
@@ -306,14 +286,14 @@ impl Source {
         if self.random.is_one_in(2) {
             self.set_up
         } else {
-            draw_bad_set_up(&mut self.random)
+            draw_bad_set_up(&mut self.random, self.plan)
         }
     }
 
     fn record(&mut self) -> Record {
-        self.now = self.now.wrapping_add(self.random.below(self.habits.pace));
+        self.now = self.now.wrapping_add(self.random.below(self.plan.pace));
         let place = usize::from(self.random.byte_below(16)) % 16;
-        match self.habits.choices[place] {
+        match self.plan.choices[place] {
             Choice::Note => Record::Note(self.sample()),
             Choice::Send => self.send(),
             Choice::Receipt => self.receipt(),
@@ -325,21 +305,18 @@ impl Source {
     }
 
     fn add_records(&mut self, trace: &mut Vec<u8>) -> Result<(), AllocError> {
-        for _ in 0..self.habits.records {
+        for _ in 0..self.plan.records {
             if trace.len() >= LONGEST {
-                return Ok(());
+                break;
             }
             add_record(trace, self.record())?;
         }
+        trace.truncate(LONGEST);
         Ok(())
     }
 
-    fn add_opening(&mut self, trace: &mut Vec<u8>) -> Result<(), AllocError> {
-        add_record(trace, Record::SetUp(self.set_up))
-    }
-
     fn add_whole(&mut self, trace: &mut Vec<u8>) -> Result<(), AllocError> {
-        self.add_opening(trace)?;
+        add_record(trace, Record::SetUp(self.set_up))?;
         self.add_records(trace)
     }
 
@@ -355,7 +332,7 @@ impl Source {
         if self.random.is_one_in(4) {
             add_record(trace, self.record())?;
         } else {
-            add_record(trace, Record::SetUp(draw_bad_set_up(&mut self.random)))?;
+            add_record(trace, Record::SetUp(draw_bad_set_up(&mut self.random, self.plan)))?;
         }
         self.add_whole(trace)
     }
@@ -410,25 +387,11 @@ impl Source {
         self.add_bytes(trace, length.saturating_sub(1))
     }
 
-    // A trace of the longest length, of whole records: of notes and losses, whose lengths are multiples of five.
+    // Behind a set-up of eleven bytes and a loss of five, notes of ten fill the longest trace to its end.
     fn add_longest(&mut self, trace: &mut Vec<u8>) -> Result<(), AllocError> {
-        self.add_opening(trace)?;
-        for _ in 0..self.habits.records {
-            if trace.len() >= NEAR_LONGEST {
-                break;
-            }
-            add_record(trace, self.record())?;
-        }
-        if trace.len() < LONGEST {
-            add_record(trace, Record::Loss(self.message()))?;
-        }
-        Ok(())
-    }
-
-    fn add_longest_mixed(&mut self, trace: &mut Vec<u8>) -> Result<(), AllocError> {
-        self.add_whole(trace)?;
-        trace.truncate(LONGEST);
-        Ok(())
+        add_record(trace, Record::SetUp(self.set_up))?;
+        add_record(trace, Record::Loss(self.message()))?;
+        self.add_records(trace)
     }
 
     fn add_too_long(&mut self, trace: &mut Vec<u8>, turn: usize) -> Result<(), AllocError> {
@@ -437,18 +400,17 @@ impl Source {
         self.add_bytes(trace, (turn / 40).saturating_mul(50))
     }
 
-    fn add_trace(&mut self, trace: &mut Vec<u8>, plan: Plan, turn: usize) -> Result<(), AllocError> {
-        match plan {
-            Plan::BadOpening => self.add_bad_opening(trace),
-            Plan::Cut => self.add_cut(trace),
-            Plan::CutRecord => self.add_cut_record(trace, turn),
-            Plan::UnknownKind => self.add_unknown_kind(trace),
-            Plan::Noise => self.add_noise(trace),
-            Plan::Short => self.add_short(trace, turn),
-            Plan::Longest => self.add_longest(trace),
-            Plan::LongestMixed => self.add_longest_mixed(trace),
-            Plan::TooLong => self.add_too_long(trace, turn),
-            _ => self.add_whole(trace),
+    fn add_trace(&mut self, trace: &mut Vec<u8>, turn: usize) -> Result<(), AllocError> {
+        match self.plan.shape {
+            Shape::Whole => self.add_whole(trace),
+            Shape::BadOpening => self.add_bad_opening(trace),
+            Shape::Cut => self.add_cut(trace),
+            Shape::CutRecord => self.add_cut_record(trace, turn),
+            Shape::UnknownKind => self.add_unknown_kind(trace),
+            Shape::Noise => self.add_noise(trace),
+            Shape::Short => self.add_short(trace, turn),
+            Shape::Longest => self.add_longest(trace),
+            Shape::TooLong => self.add_too_long(trace, turn),
         }
     }
 }
@@ -465,12 +427,12 @@ fn cut_of(turn: usize) -> (u8, usize, bool) {
     (0, cut, true)
 }
 
-// Writes a trace in place of the one that stands there.
-pub fn write_trace(trace: &mut Vec<u8>, seed: u64, number: usize) -> Result<Plan, AllocError> {
-    let (plan, turn) = Plan::of(number);
+// Writes a trace in place of the one that stands there, and gives its plan's name.
+pub fn write_trace(trace: &mut Vec<u8>, seed: u64, number: usize) -> Result<&'static str, AllocError> {
+    let plan = Plan::of(number);
     let mut seeds = Random::new(seed.wrapping_add(number as u64));
     let random = Random::new(seeds.next());
     trace.clear();
-    Source::new(plan, random).add_trace(trace, plan, turn)?;
-    Ok(plan)
+    Source::new(plan, random).add_trace(trace, number / 24)?;
+    Ok(plan.name)
 }

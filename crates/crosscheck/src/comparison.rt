@@ -29,9 +29,16 @@ fn first_parting<'a>(listed: &'a str, naive: &'a str) -> Parting<'a> {
     let mut ours = listed.lines();
     let mut others = naive.lines();
     for line in 1..listed.len().max(naive.len()) {
-        let (listed, naive) = (ours.next().unwrap_or("nothing"), others.next().unwrap_or("nothing"));
+        let (listed, naive) = (
+            ours.next().unwrap_or("nothing"),
+            others.next().unwrap_or("nothing"),
+        );
         if listed != naive {
-            return Parting { line, listed, naive };
+            return Parting {
+                line,
+                listed,
+                naive,
+            };
         }
     }
     Parting {
@@ -96,7 +103,11 @@ impl Comparison {
     }
 
     // The number and the plan's name of the first of so many traces that are listed in two ways.
-    pub fn first_difference(&mut self, seed: u64, traces: usize) -> Result<Option<(usize, &'static str)>, AllocError> {
+    pub fn first_difference(
+        &mut self,
+        seed: u64,
+        traces: usize,
+    ) -> Result<Option<(usize, &'static str)>, AllocError> {
         for number in 0..traces {
             let plan = write_trace(&mut self.trace, seed, number)?;
             self.tally.add(Count::Trace);
@@ -109,7 +120,11 @@ impl Comparison {
 
     // Prints the trace that stands here, and where its listings part.
     pub fn print_parting(&self, rt: &impl Print) -> io::Result<()> {
-        let Parting { line, listed, naive } = first_parting(self.listed.as_str(), self.naive.as_str());
+        let Parting {
+            line,
+            listed,
+            naive,
+        } = first_parting(self.listed.as_str(), self.naive.as_str());
         println!(rt; "line {line}: listed {listed}")?;
         println!(rt; "line {line}: naive {naive}")?;
         rt.println(digits_of(self.heap, &self.trace)?.as_str())

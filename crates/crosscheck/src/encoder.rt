@@ -24,7 +24,10 @@ fn add_key(trace: &mut Vec<u8>, key: Key) -> Result<(), AllocError> {
 fn add_set_up(trace: &mut Vec<u8>, set_up: SetUp) -> Result<(), AllocError> {
     let (nodes, key_kind) = (u64::from(set_up.nodes), u64::from(set_up.key_kind));
     let (lead, backstep) = (u64::from(set_up.lead), u64::from(set_up.backstep));
-    add_numbers(trace, &[(0, 1), (nodes, 1), (key_kind, 1), (lead, 4), (backstep, 4)])
+    add_numbers(
+        trace,
+        &[(0, 1), (nodes, 1), (key_kind, 1), (lead, 4), (backstep, 4)],
+    )
 }
 
 pub fn add_record(trace: &mut Vec<u8>, record: Record) -> Result<(), AllocError> {
@@ -34,9 +37,16 @@ pub fn add_record(trace: &mut Vec<u8>, record: Record) -> Result<(), AllocError>
             let node = u64::from(sample.node);
             add_numbers(trace, &[(1, 1), (node, 1), (sample.raw, 8)])
         }
-        Record::Send { sample, to, message } => {
+        Record::Send {
+            sample,
+            to,
+            message,
+        } => {
             let (node, to, message) = (u64::from(sample.node), u64::from(to), u64::from(message));
-            add_numbers(trace, &[(2, 1), (node, 1), (sample.raw, 8), (to, 1), (message, 4)])
+            add_numbers(
+                trace,
+                &[(2, 1), (node, 1), (sample.raw, 8), (to, 1), (message, 4)],
+            )
         }
         Record::Receipt { sample, message } => {
             let (node, message) = (u64::from(sample.node), u64::from(message));
@@ -44,7 +54,10 @@ pub fn add_record(trace: &mut Vec<u8>, record: Record) -> Result<(), AllocError>
         }
         Record::Loss(message) => add_numbers(trace, &[(4, 1), (u64::from(message), 4)]),
         Record::Put { sample, key, value } => {
-            let (kind, node) = (u64::from(key.kind()).saturating_add(5), u64::from(sample.node));
+            let (kind, node) = (
+                u64::from(key.kind()).saturating_add(5),
+                u64::from(sample.node),
+            );
             add_numbers(trace, &[(kind, 1), (node, 1), (sample.raw, 8)])?;
             add_key(trace, key)?;
             add_numbers(trace, &[(u64::from(value.cast_unsigned()), 4)])

@@ -2,8 +2,7 @@
 
 use crate::records::{Key, Sample};
 use crate::stamp_rules::{Stamp, ZERO};
-use std::alloc::AllocError;
-use std::alloc::Global;
+use std::alloc::{AllocError, Global};
 
 const HIGHEST_READING: u64 = 281_474_976_710_655;
 

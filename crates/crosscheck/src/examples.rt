@@ -15,7 +15,10 @@ pub struct Example {
 pub const PUT: &str = "05 00 00000000000003E8 00000007 FFFFDCD8";
 
 pub const PUT_RECORD: Record = Record::Put {
-    sample: Sample { node: 0, raw: 1_000 },
+    sample: Sample {
+        node: 0,
+        raw: 1_000,
+    },
     key: Key::Point(7),
     value: -9_000,
 };
@@ -117,13 +120,25 @@ fn is_stamp(answer: Result<Stamp, u8>, time: u64, counter: u64) -> bool {
     answer == Ok(Stamp { time, counter })
 }
 
-// The worked stamps of docs/RULES.md, by the naive rules. A trace has too few bytes for a counter of 65535, so that this is the only
-// place here where refusal 10 comes.
+// The worked stamps of docs/RULES.md, by the naive rules. A trace has too few bytes for a counter of 65535, so that this is the
+// only place here where refusal 10 comes.
 pub fn are_stamps_right() -> bool {
-    let spent = Stamp { time: 1_000, counter: 65_535 };
-    let last = Stamp { time: 1_000, counter: 4 };
-    let message = Stamp { time: 1_000, counter: 9 };
-    let ahead = Stamp { time: 1_001, counter: 9 };
+    let spent = Stamp {
+        time: 1_000,
+        counter: 65_535,
+    };
+    let last = Stamp {
+        time: 1_000,
+        counter: 4,
+    };
+    let message = Stamp {
+        time: 1_000,
+        counter: 9,
+    };
+    let ahead = Stamp {
+        time: 1_001,
+        counter: 9,
+    };
     own_stamp(spent, 1_000) == Err(10)
         && is_stamp(own_stamp(spent, 1_001), 1_001, 0)
         && is_stamp(receipt_stamp(last, message, 1_000, 0), 1_000, 10)

@@ -1,12 +1,12 @@
-// Compares the listing with a second, naive one, on written examples and on generated traces. Two arguments, a number of traces and a
-// seed, take the place of those of the gate.
+// Compares the listing with a second, naive one, on written examples and on generated traces. Two arguments, a number of traces
+// and a seed, take the place of those that the gate has.
 //
 // The functions here have no clauses: they are proved to be safe and to return, and no more. This crate is evidence from outside.
 // `naive` was written from docs/RULES.md alone, and clauses that cite the definitions of the other crates would make it the same
 // program again.
 //
-// Of the refusals 10, 17 and 19 never come of a trace. 17 and 19 are not the listing's; and for 10 a counter of 65535 is needed, which
-// takes as many events, while 65,536 bytes have room for a set-up and 6,552 of the shortest.
+// Of the refusals 10, 17 and 19 never come of a trace. 17 and 19 are not the listing's; and 10 needs a counter of 65535, and so as
+// many events, while 65,536 bytes have room for a set-up and 6,552 of the shortest.
 #![tactic(auto)]
 
 mod answers;
@@ -24,12 +24,12 @@ mod tally;
 mod traces;
 
 use comparison::Comparison;
-use std::env;
-use std::io;
 use std::process::ExitCode;
 use std::rt::Env;
+use std::{env, io};
 
 const TRACES: usize = 3_000;
+
 const SEED: u64 = 1;
 
 // How many traces, and from which seed.
@@ -39,7 +39,10 @@ fn asked(rt: &(impl Env + AllocGlobal)) -> io::Result<(usize, u64)> {
     let (Some(traces), Some(seed)) = (words.next(), words.next()) else {
         return Ok((TRACES, SEED));
     };
-    Ok((traces.parse::<usize>().unwrap_or(TRACES), seed.parse::<u64>().unwrap_or(SEED)))
+    Ok((
+        traces.parse::<usize>().unwrap_or(TRACES),
+        seed.parse::<u64>().unwrap_or(SEED),
+    ))
 }
 
 // Whether all is the same.

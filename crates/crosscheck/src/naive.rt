@@ -9,9 +9,13 @@ use crate::tally::{Count, Tally};
 use std::alloc::{AllocError, Global};
 
 const LONGEST: usize = 65_536;
+
 const MOST_NODES: u8 = 16;
+
 const MOST_UNDER_WAY: usize = 64;
+
 const MOST_VERSIONS: usize = 1_024;
+
 const A_DAY: u32 = 86_400_000;
 
 // A stamp and the reading that it was given at, or a refusal's number.
@@ -103,7 +107,13 @@ fn read(history: &History, set_up: &SetUp, code: u64, key: &Key) -> Result<Answe
 }
 
 // An event's answer, which is entered in the history, or the refusal.
-fn answer_event(history: &mut History, node: u8, stamped: Stamped, word: Count, deed: Deed) -> Result<Answer, AllocError> {
+fn answer_event(
+    history: &mut History,
+    node: u8,
+    stamped: Stamped,
+    word: Count,
+    deed: Deed,
+) -> Result<Answer, AllocError> {
     let (stamp, reading) = match stamped {
         Ok(stamped) => stamped,
         Err(number) => return Ok(Answer::Refused(number)),
@@ -146,18 +156,40 @@ fn answer(history: &mut History, set_up: &SetUp, record: &Record) -> Result<Answ
             let stamped = note(history, set_up, sample);
             answer_event(history, sample.node, stamped, Count::Note, Deed::Note)
         }
-        Record::Send { sample, to, message } => {
+        Record::Send {
+            sample,
+            to,
+            message,
+        } => {
             let stamped = send(history, set_up, sample, to, message);
-            answer_event(history, sample.node, stamped, Count::Send, Deed::Send { to, message })
+            answer_event(
+                history,
+                sample.node,
+                stamped,
+                Count::Send,
+                Deed::Send { to, message },
+            )
         }
         Record::Receipt { sample, message } => {
             let stamped = receipt(history, set_up, sample, message);
-            answer_event(history, sample.node, stamped, Count::Receipt, Deed::Receipt { message })
+            answer_event(
+                history,
+                sample.node,
+                stamped,
+                Count::Receipt,
+                Deed::Receipt { message },
+            )
         }
         Record::Loss(message) => answer_loss(history, message),
         Record::Put { sample, key, value } => {
             let stamped = put(history, set_up, sample, &key);
-            answer_event(history, sample.node, stamped, Count::Put, Deed::Put { key, value })
+            answer_event(
+                history,
+                sample.node,
+                stamped,
+                Count::Put,
+                Deed::Put { key, value },
+            )
         }
         Record::Read { code, key } => Ok(answer_read(history, set_up, code, &key)),
     }
@@ -166,9 +198,17 @@ fn answer(history: &mut History, set_up: &SetUp, record: &Record) -> Result<Answ
 fn add_answer(text: &mut String, number: usize, answer: &Answer) -> Result<(), AllocError> {
     match answer {
         Answer::SetUp => writeln!(text, "{number} setup"),
-        Answer::Event { word, node, stamp, drift } => {
+        Answer::Event {
+            word,
+            node,
+            stamp,
+            drift,
+        } => {
             let (word, time, counter) = (word.name(), stamp.time, stamp.counter);
-            writeln!(text, "{number} {word} {node} {time}.{counter} drift {drift}")
+            writeln!(
+                text,
+                "{number} {word} {node} {time}.{counter} drift {drift}"
+            )
         }
         Answer::Loss(message) => writeln!(text, "{number} loss {message}"),
         Answer::Read(newest) => {
@@ -222,13 +262,20 @@ impl Run {
     }
 
     // Keeps a read that is not settled, and counts one that is answered after all.
-    fn note_read(&mut self, record: &Record, answer: &Answer, tally: &mut Tally) -> Result<(), AllocError> {
+    fn note_read(
+        &mut self,
+        record: &Record,
+        answer: &Answer,
+        tally: &mut Tally,
+    ) -> Result<(), AllocError> {
         let Record::Read { code, key } = *record else {
             return Ok(());
         };
         match answer {
             Answer::Refused(18) => self.unsettled.push((code, key))?,
-            Answer::Read(_) | Answer::None if self.unsettled.contains(&(code, key)) => tally.add(Count::Late),
+            Answer::Read(_) | Answer::None if self.unsettled.contains(&(code, key)) => tally.add(
+                Count::Late,
+            ),
             _ => {}
         }
         Ok(())
@@ -240,12 +287,22 @@ impl Run {
     }
 }
 
-fn add_bad(text: &mut String, number: u8, place: usize, tally: &mut Tally) -> Result<(), AllocError> {
+fn add_bad(
+    text: &mut String,
+    number: u8,
+    place: usize,
+    tally: &mut Tally,
+) -> Result<(), AllocError> {
     tally.add_bad(number);
     writeln!(text, "bad {number} at {place}")
 }
 
-fn add_records(text: &mut String, run: &mut Run, trace: &[u8], tally: &mut Tally) -> Result<(), AllocError> {
+fn add_records(
+    text: &mut String,
+    run: &mut Run,
+    trace: &[u8],
+    tally: &mut Tally,
+) -> Result<(), AllocError> {
     let mut place = 0;
     // A record has at least one byte, and so there are no more of them than bytes.
     for _ in 0..trace.len() {
@@ -269,7 +326,12 @@ fn add_records(text: &mut String, run: &mut Run, trace: &[u8], tally: &mut Tally
 }
 
 // Adds the listing of a trace to the text, and its answers to the tally.
-pub fn add_listing(text: &mut String, heap: Global, trace: &[u8], tally: &mut Tally) -> Result<(), AllocError> {
+pub fn add_listing(
+    text: &mut String,
+    heap: Global,
+    trace: &[u8],
+    tally: &mut Tally,
+) -> Result<(), AllocError> {
     if trace.len() > LONGEST {
         tally.add(Count::TooLong);
         return writeln!(text, "too long");

@@ -94,7 +94,24 @@ const MIXED: Plan = Plan {
     shape: Shape::Whole,
     nodes: [1, 2, 4, 16],
     records: 90,
-    choices: [Note, Note, Note, Send, Send, Send, Receipt, Receipt, Receipt, Loss, Put, Put, Put, Read, Read, Choice::SetUp],
+    choices: [
+        Note,
+        Note,
+        Note,
+        Send,
+        Send,
+        Send,
+        Receipt,
+        Receipt,
+        Receipt,
+        Loss,
+        Put,
+        Put,
+        Put,
+        Read,
+        Read,
+        Choice::SetUp,
+    ],
     keys: 4,
     messages: 12,
     clocks: Clocks::Near,
@@ -110,7 +127,9 @@ const TIES: Plan = Plan {
     name: "ties",
     nodes: [2, 2, 3, 4],
     records: 60,
-    choices: [Note, Put, Put, Put, Put, Put, Put, Put, Put, Put, Read, Read, Read, Read, Read, Read],
+    choices: [
+        Note, Put, Put, Put, Put, Put, Put, Put, Put, Put, Read, Read, Read, Read, Read, Read,
+    ],
     keys: 2,
     clocks: Clocks::Exact,
     codes: Codes::Past(3),
@@ -125,7 +144,9 @@ const FULL_STORE: Plan = Plan {
     name: "full store",
     nodes: [1, 2, 3, 4],
     records: 1_250,
-    choices: [Put, Put, Put, Put, Put, Put, Put, Put, Put, Put, Put, Put, Put, Put, Put, Read],
+    choices: [
+        Put, Put, Put, Put, Put, Put, Put, Put, Put, Put, Put, Put, Put, Put, Put, Read,
+    ],
     keys: 300,
     codes: Codes::Past(2_000),
     slips: 80,
@@ -137,7 +158,10 @@ const FULL_STORE: Plan = Plan {
 const MESSAGES: Plan = Plan {
     name: "messages",
     records: 160,
-    choices: [Note, Send, Send, Send, Send, Send, Send, Send, Send, Send, Send, Send, Receipt, Receipt, Receipt, Loss],
+    choices: [
+        Note, Send, Send, Send, Send, Send, Send, Send, Send, Send, Send, Send, Receipt, Receipt,
+        Receipt, Loss,
+    ],
     messages: 150,
     slips: 60,
     ..MIXED
@@ -147,7 +171,10 @@ const MESSAGES: Plan = Plan {
 const AHEAD: Plan = Plan {
     name: "ahead",
     nodes: [2, 2, 4, 16],
-    choices: [Note, Note, Send, Send, Send, Send, Receipt, Receipt, Receipt, Receipt, Receipt, Receipt, Receipt, Put, Put, Read],
+    choices: [
+        Note, Note, Send, Send, Send, Send, Receipt, Receipt, Receipt, Receipt, Receipt, Receipt,
+        Receipt, Put, Put, Read,
+    ],
     messages: 6,
     clocks: Clocks::Ahead,
     pace: 3,
@@ -177,7 +204,10 @@ const EXTREMES: Plan = Plan {
 const LATE_READS: Plan = Plan {
     name: "late reads",
     nodes: [1, 2, 3, 4],
-    choices: [Note, Note, Note, Send, Receipt, Put, Put, Put, Put, Read, Read, Read, Read, Read, Read, Read],
+    choices: [
+        Note, Note, Note, Send, Receipt, Put, Put, Put, Put, Read, Read, Read, Read, Read, Read,
+        Read,
+    ],
     keys: 2,
     codes: Codes::Near,
     slips: 100,

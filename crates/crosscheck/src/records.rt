@@ -59,9 +59,23 @@ pub struct Sample {
 pub enum Record {
     SetUp(SetUp),
     Note(Sample),
-    Send { sample: Sample, to: u8, message: u32 },
-    Receipt { sample: Sample, message: u32 },
+    Send {
+        sample: Sample,
+        to: u8,
+        message: u32,
+    },
+    Receipt {
+        sample: Sample,
+        message: u32,
+    },
     Loss(u32),
-    Put { sample: Sample, key: Key, value: i32 },
-    Read { code: u64, key: Key },
+    Put {
+        sample: Sample,
+        key: Key,
+        value: i32,
+    },
+    Read {
+        code: u64,
+        key: Key,
+    },
 }

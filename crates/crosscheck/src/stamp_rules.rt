@@ -7,9 +7,13 @@ pub struct Stamp {
 }
 
 // The stamp of a node that has none.
-pub const ZERO: Stamp = Stamp { time: 0, counter: 0 };
+pub const ZERO: Stamp = Stamp {
+    time: 0,
+    counter: 0,
+};
 
 const HIGHEST_COUNTER: u64 = 65_535;
+
 const COUNTERS: u64 = 65_536;
 
 impl Stamp {

@@ -7,7 +7,9 @@ use crate::records::{Key, Record, Sample, SetUp};
 use std::alloc::AllocError;
 
 const LONGEST: usize = 65_536;
+
 const A_DAY: u64 = 86_400_000;
+
 const HIGHEST_READING: u64 = 281_474_976_710_655;
 
 // Each kind of record with the length of its body.
@@ -146,7 +148,12 @@ impl Source {
     // The time, or what is about the backstep behind it.
     fn raw_fallen(&mut self) -> u64 {
         let backstep = u64::from(self.set_up.backstep);
-        let behind = [0, backstep, backstep.wrapping_add(1), backstep.saturating_sub(1)];
+        let behind = [
+            0,
+            backstep,
+            backstep.wrapping_add(1),
+            backstep.saturating_sub(1),
+        ];
         self.now.saturating_sub(self.random.one_of(&behind))
     }
 
@@ -246,7 +253,17 @@ impl Source {
     fn extreme_code(&mut self) -> u64 {
         let present = self.now.wrapping_mul(65_536);
         let last = HIGHEST_READING.wrapping_mul(65_536);
-        let codes = [0, 1, 65_535, 65_536, 65_537, present, last, last.wrapping_add(1), u64::MAX];
+        let codes = [
+            0,
+            1,
+            65_535,
+            65_536,
+            65_537,
+            present,
+            last,
+            last.wrapping_add(1),
+            u64::MAX,
+        ];
         self.random.one_of(&codes)
     }
 
@@ -332,7 +349,10 @@ impl Source {
         if self.random.is_one_in(4) {
             add_record(trace, self.record())?;
         } else {
-            add_record(trace, Record::SetUp(draw_bad_set_up(&mut self.random, self.plan)))?;
+            add_record(
+                trace,
+                Record::SetUp(draw_bad_set_up(&mut self.random, self.plan)),
+            )?;
         }
         self.add_whole(trace)
     }
@@ -428,10 +448,14 @@ fn cut_of(turn: usize) -> (u8, usize, bool) {
 }
 
 // Writes a trace in place of the one that stands there, and gives its plan's name.
-pub fn write_trace(trace: &mut Vec<u8>, seed: u64, number: usize) -> Result<&'static str, AllocError> {
+pub fn write_trace(
+    trace: &mut Vec<u8>,
+    seed: u64,
+    number: usize,
+) -> Result<&'static str, AllocError> {
     let plan = Plan::of(number);
-    let mut seeds = Random::new(seed.wrapping_add(number as u64));
-    let random = Random::new(seeds.next());
+    let mut seeds = Random::new(seed);
+    let random = Random::new(seeds.next().wrapping_add(number as u64));
     trace.clear();
     Source::new(plan, random).add_trace(trace, number / 24)?;
     Ok(plan.name)

@@ -143,12 +143,14 @@ const TIES: Plan = Plan {
 const FULL_STORE: Plan = Plan {
     name: "full store",
     nodes: [1, 2, 3, 4],
-    records: 1_250,
+    records: 1_500,
     choices: [
         Put, Put, Put, Put, Put, Put, Put, Put, Put, Put, Put, Put, Put, Put, Put, Read,
     ],
     keys: 300,
-    codes: Codes::Past(2_000),
+    clocks: Clocks::Exact,
+    codes: Codes::Past(800),
+    pace: 2,
     slips: 80,
     key_slips: 80,
     ..MIXED
@@ -177,7 +179,7 @@ const AHEAD: Plan = Plan {
     ],
     messages: 6,
     clocks: Clocks::Ahead,
-    pace: 3,
+    pace: 2,
     slips: 100,
     ..MIXED
 };

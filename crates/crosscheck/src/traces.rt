@@ -135,14 +135,18 @@ impl Source {
             .one_of(&[0, 1, 2, below, HIGHEST_READING, above, u64::MAX])
     }
 
-    // The time plus about the lead, for nodes of an even number.
+    // The time; for nodes of an even number, more than the lead ahead of it by a little.
     fn raw_ahead(&mut self, node: u8) -> u64 {
-        if node % 2 == 1 {
-            return self.now;
-        }
+        let more = match node % 4 {
+            0 => 3,
+            2 => 9,
+            _ => return self.now,
+        };
         let lead = u64::from(self.set_up.lead);
-        let ahead = [0, lead, lead.wrapping_add(1), lead.saturating_sub(1)];
-        self.now.wrapping_add(self.random.one_of(&ahead))
+        self.now
+            .wrapping_add(lead)
+            .wrapping_add(more)
+            .wrapping_add(self.random.below(2))
     }
 
     // The time, or what is about the backstep behind it.

@@ -126,13 +126,13 @@ const MIXED: Plan = Plan {
 const TIES: Plan = Plan {
     name: "ties",
     nodes: [2, 2, 3, 4],
-    records: 60,
+    records: 120,
     choices: [
         Note, Put, Put, Put, Put, Put, Put, Put, Put, Put, Read, Read, Read, Read, Read, Read,
     ],
     keys: 2,
     clocks: Clocks::Exact,
-    codes: Codes::Past(3),
+    codes: Codes::Past(8),
     pace: 2,
     slips: 100,
     key_slips: 100,

@@ -28,7 +28,7 @@ use std::process::ExitCode;
 use std::rt::Env;
 use std::{env, io};
 
-const TRACES: usize = 3_000;
+const TRACES: usize = 10_000;
 
 const SEED: u64 = 1;
 

@@ -6,6 +6,7 @@ use std::io;
 // What is counted; of the answers, each by its word in the listing.
 #[derive(Clone, Copy)]
 pub enum Count {
+    Trace,
     SetUp,
     Note,
     Send,
@@ -21,10 +22,10 @@ pub enum Count {
     Tie,
     // Reads that were refused with 18 before they were answered.
     Late,
-    Trace,
 }
 
 const NAMES: [&str; 14] = [
+    "traces",
     "setup",
     "note",
     "send",
@@ -38,7 +39,6 @@ const NAMES: [&str; 14] = [
     "end",
     "reads with ties",
     "reads refused with 18 before",
-    "traces",
 ];
 
 #[derive(Drop)]

@@ -184,6 +184,20 @@ const AHEAD: Plan = Plan {
     ..MIXED
 };
 
+// Messages to and fro while all clocks stand still: stamps of one time, told apart by their counters.
+const STILL: Plan = Plan {
+    name: "still",
+    nodes: [2, 2, 3, 4],
+    choices: [
+        Note, Send, Send, Send, Send, Send, Send, Receipt, Receipt, Receipt, Receipt, Receipt,
+        Receipt, Receipt, Put, Read,
+    ],
+    clocks: Clocks::Exact,
+    pace: 1,
+    slips: 100,
+    ..MIXED
+};
+
 // Clocks that fall back by about the backstep.
 const FALLEN: Plan = Plan {
     name: "fallen",
@@ -339,7 +353,7 @@ static USUAL: [Plan; 24] = [
     MIXED,
     TIES,
     MESSAGES,
-    AHEAD,
+    STILL,
     FALLEN,
     EXTREMES,
     LATE_READS,

@@ -5,8 +5,8 @@
 // `naive` was written from docs/RULES.md alone, and clauses that cite the definitions of the other crates would make it the same
 // program again.
 //
-// Of the refusals 10, 17 and 19 never come of a trace. 17 and 19 are not the listing's; and 10 needs a counter of 65535, and so as
-// many events, while 65,536 bytes have room for a set-up and 6,552 of the shortest.
+// Of the refusals 10, 17 and 19 never come of a trace. 17 and 19 are not the listing's; and 10 needs a counter of 65535, and so
+// as many events, while 65,536 bytes have room for a set-up and 6,552 of the shortest.
 #![tactic(auto)]
 
 mod answers;

@@ -1,5 +1,5 @@
 -- The first bytes of a trace say whether it is too long.
-use Rattle.std.proofs.Common.{◌≡◌, ◌<◌, ◌≤◌, ◌++◌, ◌∙◌, ℕ, Bool, true, false, IfSome, OnOk, None, Some, Ok, Err, Option, Result, List, [], length, take, nat_le, refl, ap, subst, sym, arith}
+use Rattle.std.proofs.Common.{◌≡◌, ◌<◌, ◌≤◌, ◌++◌, ◌∙◌, ℕ, Bool, true, false, IfSome, OnOk, None, Some, Ok, Err, Option, Result, List, [], length, take, nat_le, refl, ap, subst, arith}
 use Rattle.std.specs.Option.{option_map}
 use Rattle.std.specs.Io.KnownBytes.{Appends}
 use Rattle.std.specs.Io.Take.{take_limit, take_inner, take_remaining}

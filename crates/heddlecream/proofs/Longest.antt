@@ -1,6 +1,6 @@
 -- The first bytes of a trace say whether it is too long.
 use Rattle.std.proofs.Common.{◌≡◌, ◌<◌, ◌≤◌, ◌++◌, ◌∙◌, ℕ, Bool, true, false, IfSome, OnOk, None, Some, Ok, Err, Option, Result}
-use Rattle.std.proofs.Common.{List, [], length, take, nat_le, refl, ap, subst, sym, arith}
+use Rattle.std.proofs.Common.{List, [], length, take, nat_le, refl, ap, subst, arith}
 use Rattle.std.specs.Option.{option_map}
 use Rattle.std.specs.Io.KnownBytes.{Appends}
 use Rattle.std.specs.Io.Take.{take_limit, take_inner, take_remaining}

@@ -1,55 +1,39 @@
 -- What each call of an open recorder answers: its checks in their order, and then the answer.
-use Rattle.std.specs.Prelude.{ℕ, Bool, ◌&&◌, List, if◌then◌else◌, ◌==◌, length, nat_le, Some, None, Ok, Err, Option, Result}
+use Rattle.std.specs.Prelude.{ℕ, Bool, List, if◌then◌else◌, length, nat_le, Ok, Err, Option, Result}
 use Rattle.std.specs.declared.cmp.Ordering.{Ordering}
-use Rattle.clocks.specs.Bank.{Meaning, look_answer}
+use Rattle.clocks.specs.Bank.{Meaning}
 use Rattle.clocks.specs.declared.sample.Sample.{Sample}
-use Rattle.messages.specs.Messages.{MessageNumbers, is_under_way, message_of, may_send_answer}
-use Rattle.stamps.specs.Rules.{StampedNumbers, lead_receipt_answer, own_answer}
+use Rattle.exchange.specs.Answers as exchange
+use Rattle.stamps.specs.Rules.{StampedNumbers}
 use Rattle.store.specs.Contents.{Contents}
 use Rattle.store.specs.Newest.{newest}
 use Rattle.store.specs.Page.{after_cut, cut_answer, page}
 use Rattle.store.specs.declared.version.Version.{Version}
-use Rattle.stamper.specs.Readings.{at_reading}
-use Rattle.stamper.specs.Stamps.{stamp_at}
-use Rattle.recorder.specs.State.{State, is_node}
+use Rattle.recorder.specs.State.{State, exchange_of, is_node}
 
+-- Notes, sends, receipts and losses: as the nodes answer them, whatever is recorded.
 module _ {B K : Type 0} (meaning : B → Meaning) (s : State B K) where
   -- the reading of the sample's node
   abbrev pub clock_answer : Sample → Result ℕ ℕ
-  clock_answer sample = look_answer (meaning s.bank) sample.node sample.raw.0
+  clock_answer sample = exchange.clock_answer meaning (exchange_of s) sample
 
   -- an event behind the node's last one: the clock's 8 or 9, then 10
   abbrev pub own_event : Sample → Result StampedNumbers ℕ
-  own_event sample = at_reading (own_answer (stamp_at s.last sample.node)) (clock_answer sample)
+  own_event sample = exchange.own_event meaning (exchange_of s) sample
 
   -- 7, 8 or 9, 10
   abbrev pub note_answer : Sample → Result StampedNumbers ℕ
-  note_answer sample = (if is_node s sample.node then own_event sample else Err 7)
-
-  -- the event, where a message may be sent
-  abbrev pub if_sent : Sample → Result (Unit {0}) ℕ → Result StampedNumbers ℕ
-  if_sent sample (Ok _) = own_event sample
-  if_sent sample (Err number) = Err number
+  note_answer sample = exchange.note_answer meaning (exchange_of s) sample
 
   -- 7 for either node, 11, 12, 8 or 9, 10
   abbrev pub send_answer : Sample → ℕ → ℕ → Result StampedNumbers ℕ
-  send_answer sample to number =
-      (if is_node s sample.node && is_node s to then if_sent sample (may_send_answer number s.messages) else Err 7)
-
-  -- the event, where a message was found
-  abbrev pub if_found : Sample → Option MessageNumbers → Result StampedNumbers ℕ
-  if_found sample None = Err 13
-  if_found sample (Some m) =
-      (if m.to == sample.node
-      then at_reading (lead_receipt_answer s.lead (stamp_at s.last sample.node) m.stamp) (clock_answer sample)
-      else Err 14)
+  send_answer sample to number = exchange.send_answer meaning (exchange_of s) sample to number
 
   -- 7, 13, 14, 8 or 9, 15, 10
   abbrev pub receipt_answer : Sample → ℕ → Result StampedNumbers ℕ
-  receipt_answer sample number =
-      (if is_node s sample.node then if_found sample (message_of number s.messages) else Err 7)
+  receipt_answer sample number = exchange.receipt_answer meaning (exchange_of s) sample number
 
-  -- 7, 16, 8 or 9, 10
+  -- a put: 7, 16, 8 or 9, 10
   abbrev pub put_answer : Sample → Result StampedNumbers ℕ
   put_answer sample =
       (if is_node s sample.node
@@ -58,7 +42,7 @@ module _ {B K : Type 0} (meaning : B → Meaning) (s : State B K) where
 
 -- 13
 abbrev pub loss_answer : {B K : Type 0} → State B K → ℕ → Result (Unit {0}) ℕ
-loss_answer s number = (if is_under_way number s.messages then Ok tt else Err 13)
+loss_answer s number = exchange.loss_answer (exchange_of s) number
 
 -- Questions, where these stamp codes are settled, of these contents: of an open recorder, or of a closed one, where all are.
 module _ {K : Type 0} (order : K → K → Ordering) (settled : ℕ → Bool) (contents : Contents K) where

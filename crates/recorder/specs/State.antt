@@ -1,5 +1,6 @@
 -- How a recorder stands.
 use Rattle.std.specs.Prelude.{ℕ, ◌≤◌, ◌==◌, if◌then◌else◌, List, [], length, Bool, nat_lt, Ok, Err, Result}
+use Rattle.exchange.specs.State.{ExchangeState}
 use Rattle.messages.specs.Messages.{MessageNumbers}
 use Rattle.stamps.specs.Stamp.{Timestamp, code_of}
 use Rattle.store.specs.Contents.{Contents}
@@ -19,6 +20,10 @@ pub record State (B K : Type 0) : Type 0 where
   pub messages : List MessageNumbers
   -- the versions in its store
   pub contents : Contents K
+
+-- the nodes and the messages between them, whatever is recorded
+abbrev pub exchange_of : {B K : Type 0} → State B K → ExchangeState B
+exchange_of s = record { lead = s.lead; bank = s.bank; last = s.last; messages = s.messages }
 
 -- as it is set up
 abbrev pub fresh_state : {B K : Type 0} → SettingNumbers → B → Contents K → State B K

@@ -1,8 +1,7 @@
 // The open recorder. Each of its calls stands in a file below.
-ghost use Rattle.std.specs.Prelude.{◌≡◌, [], Err, Ok, if◌then◌else◌};
+ghost use Rattle.std.specs.Prelude.{◌≡◌, []};
 ghost use Rattle.stamper.specs.Settings.{setting_numbers};
-ghost use Rattle.recorder.specs.State.{closed_state, fresh_state, is_node};
-ghost use Rattle.refusals.specs.Refusals.{shown};
+ghost use Rattle.recorder.specs.State.{closed_state, fresh_state};
 
 mod cut;
 mod list;
@@ -16,19 +15,16 @@ mod send;
 use crate::closed::Closed;
 use crate::empty_store::EmptyStore;
 use clocks::bank::ClockBank;
+use exchange::exchange::Exchange;
 use keys::kind::KeyKind;
-use messages::messages::Messages;
-use refusals::refusal::Refusal;
 use stamper::settings::Settings;
-use stamper::stamper::Stamper;
 use std::marker::{Model, PhantomData};
 use store::version_store::VersionStore;
 
 // A recorder that is fed.
 #[derive(Drop)]
 pub struct Open<B: ClockBank, K: KeyKind, S: VersionStore<K>> {
-    stamper: Stamper<B>,
-    messages: Messages,
+    exchange: Exchange<B>,
     store: S,
     keys: PhantomData<K>,
 }
@@ -39,14 +35,14 @@ impl<B: ClockBank, K: KeyKind, S: VersionStore<K>> Model for Open<B, K, S> {
     ghost Value = { State B K };
 
     ghost view = { λ recorder. record {
-      lead = recorder.stamper.lead;
-      bank = recorder.stamper.bank;
-      last = recorder.stamper.last;
-      messages = recorder.messages;
+      lead = recorder.exchange.lead;
+      bank = recorder.exchange.bank;
+      last = recorder.exchange.last;
+      messages = recorder.exchange.messages;
       contents = S.contents recorder.store;
     } };
 
-    ghost invariant = { λ recorder. IsBehind recorder.stamper.last (S.contents recorder.store) };
+    ghost invariant = { λ recorder. IsBehind recorder.exchange.last (S.contents recorder.store) };
 }
 
 impl<B: ClockBank, K: KeyKind, S: VersionStore<K>> Open<B, K, S> {
@@ -56,21 +52,9 @@ impl<B: ClockBank, K: KeyKind, S: VersionStore<K>> Open<B, K, S> {
         ensures empty { result.contents.versions ≡ [] }
     {
         Open {
-            stamper: Stamper::new(settings, bank),
-            messages: Messages::new(),
+            exchange: Exchange::new(settings, bank),
             store: store.store,
             keys: PhantomData,
-        }
-    }
-
-    // Refused with 7 where there is no such node.
-    fn check_node(&self, node: u8) -> Result<(), Refusal>
-        ensures { shown result ≡ (if is_node self.now node then Ok tt else Err 7) }
-    {
-        if self.stamper.has(node) {
-            Ok(())
-        } else {
-            Err(Refusal::NoSuchNode)
         }
     }
 }
@@ -80,6 +64,6 @@ impl<B: ClockBank + Drop, K: KeyKind, S: VersionStore<K>> Open<B, K, S> {
     pub fn close(self) -> Closed<K, S>
         ensures { result ≡ closed_state self }
     {
-        Closed::new(self.messages, self.store)
+        Closed::new(self.exchange.close(), self.store)
     }
 }

@@ -21,6 +21,6 @@ impl<B: ClockBank, K: KeyKind, S: VersionStore<K>> Open<B, K, S> {
         ensures distinct { AreDistinct self.now.messages }
         ensures few { length self.now.messages ≤ most_under_way }
     {
-        self.messages.list(rows)
+        self.exchange.list_messages(rows)
     }
 }

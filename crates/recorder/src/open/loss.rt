@@ -16,10 +16,6 @@ impl<B: ClockBank, K: KeyKind, S: VersionStore<K>> Open<B, K, S> {
         ensures answer { shown result ≡ loss_answer self.old number }
         ensures change { self.new ≡ after_loss self.old number (shown result) }
     {
-        let Some(_) = self.messages.find(number) else {
-            return Err(Refusal::NumberNotUnderWay);
-        };
-        self.messages.remove(number);
-        Ok(())
+        self.exchange.loss(number)
     }
 }

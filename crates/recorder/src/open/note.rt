@@ -23,10 +23,6 @@ impl<B: ClockBank, K: KeyKind, S: VersionStore<K>> Open<B, K, S> {
         ensures reading { TookReading B.meaning B.beside sample (shown (result_map stamped_numbers result))
             self.old.bank self.new.bank }
     {
-        self.check_node(sample.node)?;
-        let noted = self.stamper.own(sample)?;
-        // The clock has answered, so this does not refuse.
-        self.stamper.enter(sample, noted)?;
-        Ok(noted)
+        self.exchange.note(sample)
     }
 }

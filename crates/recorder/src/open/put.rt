@@ -26,11 +26,11 @@ impl<B: ClockBank, K: KeyKind, S: VersionStore<K>> Open<B, K, S> {
         ensures reading { TookReading B.meaning B.beside sample (shown (result_map stamped_numbers result))
             self.old.bank self.new.bank }
     {
-        self.check_node(sample.node)?;
+        self.exchange.check_node(sample.node)?;
         if self.store.count() == self.store.capacity() {
             return Err(Refusal::StoreFull);
         }
-        let stamped = self.stamper.own(sample)?;
+        let stamped = self.exchange.own(sample)?;
         self.enter_put(sample, stamped, key, value)?;
         Ok(stamped)
     }
@@ -59,6 +59,6 @@ impl<B: ClockBank, K: KeyKind, S: VersionStore<K>> Open<B, K, S> {
             node: sample.node,
             value,
         })?;
-        self.stamper.enter(sample, stamped)
+        self.exchange.enter(sample, stamped)
     }
 }

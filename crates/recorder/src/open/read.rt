@@ -28,7 +28,7 @@ impl<B: ClockBank, K: KeyKind, S: VersionStore<K>> Open<B, K, S> {
     pub(super) fn check_settled(&self, stamp: u64) -> Result<(), Refusal>
         ensures { shown result ≡ (if is_settled self.now stamp then Ok tt else Err 18) }
     {
-        if self.stamper.none_below(stamp) {
+        if self.exchange.none_below(stamp) {
             Ok(())
         } else {
             Err(Refusal::NotSettled)

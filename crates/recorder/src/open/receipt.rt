@@ -24,17 +24,6 @@ impl<B: ClockBank, K: KeyKind, S: VersionStore<K>> Open<B, K, S> {
         ensures reading { TookReading B.meaning B.beside sample (shown (result_map stamped_numbers result))
             self.old.bank self.new.bank }
     {
-        self.check_node(sample.node)?;
-        let Some(message) = self.messages.find(number) else {
-            return Err(Refusal::NumberNotUnderWay);
-        };
-        if message.to != sample.node {
-            return Err(Refusal::OtherAddressee);
-        }
-        let stamped = self.stamper.receipt(sample, message.stamp)?;
-        // The clock has answered, so this does not refuse.
-        self.stamper.enter(sample, stamped)?;
-        self.messages.remove(number);
-        Ok(stamped)
+        self.exchange.receipt(sample, number)
     }
 }

@@ -10,7 +10,6 @@ use crate::open::Open;
 use clocks::bank::ClockBank;
 use clocks::sample::Sample;
 use keys::kind::KeyKind;
-use messages::message::Message;
 use refusals::refusal::Refusal;
 use stamps::stamped::Stamped;
 use store::version_store::VersionStore;
@@ -25,14 +24,6 @@ impl<B: ClockBank, K: KeyKind, S: VersionStore<K>> Open<B, K, S> {
         ensures reading { TookReading B.meaning B.beside sample (shown (result_map stamped_numbers result))
             self.old.bank self.new.bank }
     {
-        self.check_node(sample.node)?;
-        self.check_node(to)?;
-        self.messages.check_send(number)?;
-        let stamped = self.stamper.own(sample)?;
-        let stamp = stamped.stamp;
-        // All checks are made, and the clock has answered: neither of these refuses.
-        self.messages.send(Message { number, to, stamp })?;
-        self.stamper.enter(sample, stamped)?;
-        Ok(stamped)
+        self.exchange.send(sample, to, number)
     }
 }

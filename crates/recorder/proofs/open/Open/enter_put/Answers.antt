@@ -1,6 +1,6 @@
 use mir.Syntax.{w32}
 use mir.Val.{of_z, to_z}
-use Rattle.std.proofs.Common.{◌≡◌, ◌<◌, IsOk, arith, length, nat_lt, subst, sym, true}
+use Rattle.std.proofs.Common.{◌≡◌, ◌<◌, IsOk, ap, arith, length, nat_lt, subst, sym, true}
 use Rattle.std.proofs.lemmas.Bool.Decides.{nat_tests}
 use Rattle.stamps.specs.Stamp.{code_of, stamp_of}
 use Rattle.recorder.specs.Answers.{clock_answer}
@@ -15,7 +15,7 @@ refused g c =
     let later = subst (λ s. code_of (stamp_at s.last c.args.sample.node) < code_of (stamp_of c.args.stamped.stamp))
     (sym c.self.view_is) c.requires.later in
     let room = subst (λ s. length s.contents.versions < s.contents.capacity) (sym c.self.view_is) c.requires.room in
-    not_refused c.self.inside.stamper.last (g.S.VersionStore.contents c.self.inside.store) c.self.invariant g.K.Ord.cmp
+    not_refused c.self.inside.exchange.last (g.S.VersionStore.contents c.self.inside.store) c.self.invariant g.K.Ord.cmp
     (record { key = c.args.key; stamp = c.code.result; node = c.args.sample.node; value = to_z w32 (of_z w32 c.args.value) })
     (stamp_of c.args.stamped.stamp) c.code.ensures.code node later room _ c.add.ensures.answer _ c.in_err-add.was
 
@@ -33,9 +33,10 @@ invariant_of-self-2 g c =
     let node = subst (λ s. c.args.sample.node < length s.last) (sym c.self.view_is) c.requires.node in
     let later = subst (λ s. code_of (stamp_at s.last c.args.sample.node) < code_of (stamp_of c.args.stamped.stamp))
     (sym c.self.view_is) c.requires.later in
-    let put = behind_put c.self.inside.stamper.last (g.S.VersionStore.contents c.self.inside.store) c.self.invariant g.K.Ord.cmp
+    let put = behind_put c.self.inside.exchange.last (g.S.VersionStore.contents c.self.inside.store) c.self.invariant g.K.Ord.cmp
     (record { key = c.args.key; stamp = c.code.result; node = c.args.sample.node; value = to_z w32 (of_z w32 c.args.value) })
     (stamp_of c.args.stamped.stamp) c.code.ensures.code node later in
     let clock = subst (λ s. IsOk (clock_answer g.B.ClockBank.meaning s c.args.sample)) (sym c.self.view_is) c.requires.clock in
-    let here : nat_lt c.args.sample.node (length c.self.inside.stamper.last) ≡ true = grind (arith, nat_tests, node) in
-    rw (when_read _ c.enter.result _ _ here clock c.enter.ensures.answer c.enter.ensures.last, c.add.ensures.change) put
+    let here : nat_lt c.args.sample.node (length c.self.inside.exchange.last) ≡ true = grind (arith, nat_tests, node) in
+    let entered = when_read _ c.enter.result _ _ here clock c.enter.ensures.answer c.enter.ensures.change in
+    rw (ap (λ s. s.last) entered, c.add.ensures.change) put

@@ -13,13 +13,35 @@ use crate::calls::{TraceKey, calls_for};
 use crate::setup::SetUp;
 use clocks::trace_clocks::TraceClocks;
 use recorder::empty_store::EmptyStore;
-use replay::call::Answer;
+use replay::call::{Answer, Call};
 use replay::replay::{Run, replay};
 use std::alloc::{AllocError, Global};
 use store::listable::Listable;
 use trace::records::Record;
 
-// What a recorder with trace clocks and this store answers to the calls of the records behind a set-up.
+// What a recorder with trace clocks and this store answers to these calls.
+fn answers_to<K: TraceKey, S: Listable<K> + Drop>(
+    heap: Global,
+    setup: SetUp,
+    store: EmptyStore<K, S>,
+    calls: Vec<Call<K>>,
+) -> Result<Vec<Answer<K>>, AllocError>
+    ensures { let start = fresh_state (setting_numbers setup.settings) fresh_highs store in
+        IfOk result (λ answers. map answer_numbers answers.items
+        ≡ trace_answers K.cmp (backstep_of setup.backstep) start calls.items) }
+{
+    let run = Run {
+        calls,
+        closes: false,
+        questions: Vec::new(heap),
+    };
+    let bank = TraceClocks::new(setup.backstep);
+    let mut answers = Vec::new(heap);
+    replay(setup.settings, bank, store, run, &mut answers)?;
+    Ok(answers)
+}
+
+// The same to the calls of the records behind a set-up.
 pub fn answers_for<K: TraceKey, S: Listable<K> + Drop>(
     heap: Global,
     setup: SetUp,
@@ -31,13 +53,5 @@ pub fn answers_for<K: TraceKey, S: Listable<K> + Drop>(
         IfOk result (λ answers. map answer_numbers answers.items
         ≡ trace_answers K.cmp (backstep_of setup.backstep) start calls) }
 {
-    let run = Run {
-        calls: calls_for(heap, records)?,
-        closes: false,
-        questions: Vec::new(heap),
-    };
-    let bank = TraceClocks::new(setup.backstep);
-    let mut answers = Vec::new(heap);
-    replay(setup.settings, bank, store, run, &mut answers)?;
-    Ok(answers)
+    answers_to(heap, setup, store, calls_for(heap, records)?)
 }

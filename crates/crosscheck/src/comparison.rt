@@ -2,10 +2,10 @@
 
 use crate::examples::{self, EXAMPLES, PUT, PUT_RECORD};
 use listing::report;
-use made_traces::encoder::add_record;
 use made_traces::traces::write_trace;
 use naive::listing::add_listing as add_naive_listing;
 use naive::tally::{Count, Tally};
+use naive_format::encoder::add_record;
 use std::alloc::{AllocError, Global};
 use std::io;
 

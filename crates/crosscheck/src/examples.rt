@@ -1,7 +1,7 @@
 // The written examples of docs/RULES.md: traces in hexadecimal, with the listings that they have there or by the words there.
 
-use naive::records::{Key, Record, Sample};
 use naive::stamp_rules::{Stamp, own_stamp, receipt_stamp};
+use naive_format::records::{Key, Record, Sample};
 use std::alloc::AllocError;
 
 #[derive(Clone, Copy)]

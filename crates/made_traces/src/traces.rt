@@ -1,9 +1,9 @@
 // Generated traces.
 
-use crate::encoder::add_record;
 use crate::plans::{Choice, Clocks, Codes, Plan, Shape};
 use crate::random::Random;
-use naive::records::{Key, Record, Sample, SetUp};
+use naive_format::encoder::add_record;
+use naive_format::records::{Key, Record, Sample, SetUp};
 use std::alloc::AllocError;
 
 const LONGEST: usize = 65_536;

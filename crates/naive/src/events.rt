@@ -1,7 +1,7 @@
 // Everything that was accepted, in the order in which it came. Every question is answered by going through it.
 
-use crate::records::{Key, Sample};
 use crate::stamp_rules::{Stamp, ZERO};
+use naive_format::records::{Key, Sample};
 use std::alloc::{AllocError, Global};
 
 const HIGHEST_READING: u64 = 281_474_976_710_655;

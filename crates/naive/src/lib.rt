@@ -6,9 +6,7 @@
 #![tactic(auto)]
 
 pub mod answers;
-mod decoder;
 mod events;
 pub mod listing;
-pub mod records;
 pub mod stamp_rules;
 pub mod tally;

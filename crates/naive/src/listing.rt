@@ -1,11 +1,11 @@
 // A second listing, written from docs/RULES.md alone. It keeps the whole history and goes through it for every answer.
 
 use crate::answers::Answer;
-use crate::decoder::{Found, record_at};
 use crate::events::{Deed, Entry, Event, History};
-use crate::records::{Key, Record, Sample, SetUp};
 use crate::stamp_rules::{Stamp, own_stamp, receipt_stamp};
 use crate::tally::{Count, Tally};
+use naive_format::decoder::{Found, record_at};
+use naive_format::records::{Key, Record, Sample, SetUp};
 use std::alloc::{AllocError, Global};
 
 const LONGEST: usize = 65_536;

@@ -1,6 +1,6 @@
 // Records to a trace's bytes.
 
-use naive::records::{Key, Record, SetUp};
+use crate::records::{Key, Record, SetUp};
 use std::alloc::AllocError;
 
 // Adds numbers, each in so many bytes.

@@ -13,9 +13,9 @@ use Rattle.replay.specs.declared.call.Call.{Call}
 use Rattle.trace.specs.Contents.{Content, content_of}
 use Rattle.trace.specs.declared.records.Record.{Record}
 use Rattle.trace_run.specs.Calls.{KeyForm, call_of, calls_of}
-use Rattle.listing.specs.Lines.{Outcome, accepted_among, outcome_line, outcome_lines, refused_among}
+use Rattle.record_lines.specs.Lines.{Outcome, accepted_among, outcome_line, outcome_lines, refused_among}
 use Rattle.listing.specs.Outcomes.{AddsOutcomes, after_one, answers_left, next_outcome, recorded}
-use Rattle.listing.specs.declared.outcomes.Counts.{Counts}
+use Rattle.record_lines.specs.declared.end.Counts.{Counts}
 
 -- a call has taken one answer
 behind_call : {K : Type 0} (left : List (AnswerNumbers K)) (c : Call K) {n : ℕ} → length left ≡ suc n

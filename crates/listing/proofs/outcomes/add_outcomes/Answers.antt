@@ -8,7 +8,7 @@ loop-record-preserved g c =
     let next = c.next_of-next.ensures in
     lined _ _ (map answer_numbers c.args.answers.now) c.loop-record.invariant _ c.loop-record-test.true _ _ refl next.more _
     (is_ok c.next_of-next.result.more) _ next.left
-    c.with-counts.ensures (search rules) c.in_ok-add_outcome.ensures.adds
+    c.with_one-counts.ensures (search rules) c.in_ok-add_outcome.ensures.adds
 
 pub returns-in_err-add_outcome : goal.returns-in_err-add_outcome
 returns-in_err-add_outcome g c =

@@ -40,7 +40,6 @@ fn blank<K>(key: K) -> Version<K>
 }
 
 // The lines of the records behind a set-up, and the counts of all records: through a recorder with this store.
-#[tactic(auto, using(crate::proofs::Running::recorded_run, crate::proofs::Running::as_many))]
 fn add_run_in<K: TraceKey, S: Listable<K> + Drop>(
     text: &mut String,
     heap: Global,

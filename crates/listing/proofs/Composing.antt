@@ -7,12 +7,12 @@ use Rattle.lines.proofs.Adding.{OnTheWay, onward, start, step, stop}
 use Rattle.trace.specs.Contents.{content_of}
 use Rattle.trace.specs.Whole.{Ending}
 use Rattle.trace.specs.declared.records.Record.{Record}
-use Rattle.listing.specs.Lines.{Outcome, accepted_among, end_line, ending_lines, outcome_for, outcome_line, outcome_lines}
-use Rattle.listing.specs.Lines.{refused_among}
+use Rattle.record_lines.specs.Lines.{Outcome, accepted_among, end_line, ending_lines, outcome_for, outcome_line, outcome_lines}
+use Rattle.record_lines.specs.Lines.{refused_among}
 use Rattle.listing.specs.Outcomes.{AreCounts}
 use Rattle.trace_run.specs.SetUp.{SetUpNumbers, set_up_answer}
 use Rattle.listing.specs.Text.{listing_of, listing_text, outcomes_for, set_up_listing}
-use Rattle.listing.specs.declared.outcomes.Counts.{Counts}
+use Rattle.record_lines.specs.declared.end.Counts.{Counts}
 
 -- the records are a first, which is this set-up, and these others
 module _ (records : List Record) (first : Record) (later : List Record) (setup : SetUpNumbers) (ending : Ending)

@@ -1,21 +1,21 @@
 -- What is known between the lines of two records.
 use Rattle.std.proofs.Common.{◌≡◌, ℕ, suc, ◌+◌, ◌<◌, Bool, List, ◌++◌, ◌∷◌, [], length, map, drop, get_or, Ok, Err, Result}
-use Rattle.std.proofs.Common.{String, is_ok, is_err, true, ◌≤◌, ap, ◌∙◌, refl, arith}
+use Rattle.std.proofs.Common.{String, IsOk, is_ok, is_err, true, ◌≤◌, ap, ◌∙◌, refl, arith}
 use Rattle.std.proofs.lemmas.List.{at_drop_all, at_drop_more}
 use Rattle.std.proofs.lemmas.Bool.Decides.{nat_tests}
 use Rattle.std.proofs.lemmas.Grind.{common_steps}
 use Rattle.std.specs.List.{cons_option}
 use Rattle.std.specs.Result.{result_ok}
 use Rattle.lines.specs.Adding.{Adds}
-use Rattle.lines.proofs.Adding.{OnTheWay, step, stop}
+use Rattle.lines.proofs.Adding.{OnTheWay, start, step, stop}
 use Rattle.replay.specs.Calls.{AnswerNumbers}
 use Rattle.replay.specs.declared.call.Call.{Call}
 use Rattle.trace.specs.Contents.{Content, content_of}
 use Rattle.trace.specs.declared.records.Record.{Record}
 use Rattle.trace_run.specs.Calls.{KeyForm, call_of, calls_of}
-use Rattle.listing.specs.Lines.{Outcome, accepted_among, outcome_line, outcome_lines, refused_among}
+use Rattle.record_lines.specs.Lines.{Outcome, accepted_among, outcome_line, outcome_lines, refused_among}
 use Rattle.listing.specs.Outcomes.{AddsOutcomes, after_one, answers_left, next_outcome, recorded}
-use Rattle.listing.specs.declared.outcomes.Counts.{Counts}
+use Rattle.record_lines.specs.declared.end.Counts.{Counts}
 
 -- a call has taken one answer
 behind_call : {K : Type 0} (left : List (AnswerNumbers K)) (c : Call K) {n : ℕ} → length left ≡ suc n
@@ -44,6 +44,17 @@ module _ {K : Type 0} (form : KeyForm K) (records : List Record) (answers : List
       pub number : accepted + refused ≡ 1 + i
       pub enough : length left ≡ length (calls_of form (map content_of (drop i records)))
 
+  -- before the first
+  pub lined_none : {Z : Type 0} (was : String Z) → length answers ≡ length (calls_of form (map content_of records))
+      → IsLined was was 0 answers 1 0
+  lined_none was e = record {
+    way = start was (outcome_lines 2 all);
+    accepted_counted = refl;
+    refused_counted = omega arith;
+    number = refl;
+    enough = e;
+  }
+
   module _ {Z : Type 0} {was mid : String Z} {i accepted refused : ℕ} {left : List (AnswerNumbers K)}
       (g : IsLined was mid i left accepted refused) (r : Record) (h : i < length records) where
     -- the record that comes next, and what comes of it
@@ -59,18 +70,27 @@ module _ {K : Type 0} (form : KeyForm K) (records : List Record) (answers : List
     rest_more : rest i left ≡ outcome ∷ rest (i + 1) left_then
     rest_more = at_drop_more (λ (rs : List Record). recorded form (map content_of rs) left) records i r h
 
-    enough_then : length left_then ≡ length (calls_of form (map content_of (drop (i + 1) records)))
-    enough_then = go (call_of form content) refl
-        (g.enough ∙ at_drop_more (λ (rs : List Record). length (calls_of form (map content_of rs))) records i r h)
+    abbrev calls_then : List (Call K)
+    calls_then = calls_of form (map content_of (drop (i + 1) records))
+
+    enough_more : length left ≡ length (cons_option (result_ok (call_of form content)) calls_then)
+    enough_more = g.enough ∙ at_drop_more (λ (rs : List Record). length (calls_of form (map content_of rs))) records i r h
+
+    enough_then : length left_then ≡ length calls_then
+    enough_then = go (call_of form content) enough_more
       where
-        go : (c : Result (Call K) ℕ) → call_of form content ≡ c
-            → length left ≡ length (calls_of form (content ∷ map content_of (drop (i + 1) records)))
-            → length (answers_left c left) ≡ length (calls_of form (map content_of (drop (i + 1) records)))
-        go (Ok c) e n = behind_call left c
-            (n ∙ ap (λ (o : Result (Call K) ℕ). length
-            (cons_option (result_ok o) (calls_of form (map content_of (drop (i + 1) records))))) e)
-        go (Err k) e n = n ∙ ap (λ (o : Result (Call K) ℕ). length
-            (cons_option (result_ok o) (calls_of form (map content_of (drop (i + 1) records))))) e
+        go : (c : Result (Call K) ℕ) → length left ≡ length (cons_option (result_ok c) calls_then)
+            → length (answers_left c left) ≡ length calls_then
+        go (Ok c) n = behind_call left c n
+        go (Err refusal) n = n
+
+    -- a record with a call has an answer
+    pub answer_there : IsOk (call_of form content) → 0 < length left
+    answer_there ok = go (call_of form content) ok enough_more
+      where
+        go : (c : Result (Call K) ℕ) → IsOk c → length left ≡ length (cons_option (result_ok c) calls_then) → 0 < length left
+        go (Ok c) ok n = omega (arith, n)
+        go (Err refusal) ok n = grind (arith, ok)
 
     module _ (n : ℕ) (o : Outcome) (e : n ≡ accepted + refused + 1) (is : o ≡ outcome) where
       line_more : outcome_lines (2 + i) (rest i left) ≡ outcome_line n o ++ outcome_lines (2 + (i + 1)) (rest (i + 1) left_then)
@@ -87,7 +107,7 @@ module _ {K : Type 0} (form : KeyForm K) (records : List Record) (answers : List
           let line = line_more in
           let counted = ap accepted_among rest_more in
           let counted_refused = ap refused_among rest_more in
-          let enough : length left_then ≡ length (calls_of form (map content_of (drop (i + 1) records))) = enough_then in
+          let enough = enough_then in
           let accepted_is : b ≡ is_ok outcome = ok ∙ ap is_ok is in
           rw l record {
             way = step _ _ g.way line a;

@@ -1,3 +1,2 @@
-pub mod Lines
 pub mod Outcomes
 pub mod Text

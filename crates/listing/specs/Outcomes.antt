@@ -5,8 +5,8 @@ use Rattle.replay.specs.Calls.{AnswerNumbers}
 use Rattle.replay.specs.declared.call.Call.{Call}
 use Rattle.trace.specs.Contents.{Content}
 use Rattle.trace_run.specs.Calls.{KeyForm, call_of}
-use Rattle.listing.specs.Lines.{Outcome, accepted_among, answered, outcome_lines, refused_among}
-use Rattle.listing.specs.declared.outcomes.Counts.{Counts}
+use Rattle.record_lines.specs.Lines.{Outcome, accepted_among, answered, outcome_lines, refused_among}
+use Rattle.record_lines.specs.declared.end.Counts.{Counts}
 
 module _ {K : Type 0} where
   -- of a record with this call, or that was refused before: the next answer (there is one), or the refusal

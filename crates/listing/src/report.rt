@@ -6,11 +6,12 @@ ghost use Rattle.trace.specs.Whole.{SplitsOneWay};
 ghost use Rattle.trace_run.specs.Reading.{ending_of};
 ghost use Rattle.listing.specs.Text.{listing_of, listing_text, text_of};
 
-use crate::outcomes::{Counts, add_end, add_outcome};
 use crate::run::add_run;
 use arrayvec::ArrayVec;
 use lines::line::{Piece, Word};
 use lines::text::add_line;
+use record_lines::end::{Counts, add_end};
+use record_lines::outcome::add_outcome;
 use std::alloc::{AllocError, Global};
 use trace_run::reading::{Bad, Records, read_records};
 use trace_run::setup::SetUp;

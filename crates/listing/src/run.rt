@@ -9,9 +9,10 @@ ghost use Rattle.listing.specs.Outcomes.{AddsOutcomes};
 ghost use Rattle.trace_run.specs.SetUp.{set_up_numbers};
 ghost use Rattle.listing.specs.Text.{outcomes, outcomes_for};
 
-use crate::outcomes::{Counts, add_outcomes};
+use crate::outcomes::add_outcomes;
 use keys::point::Point;
 use keys::tag::Tag;
+use record_lines::end::Counts;
 use recorder::empty_store::EmptyStore;
 use search_tree::{Node, SearchTree};
 use sorted_run::SortedRun;
@@ -39,7 +40,6 @@ fn blank<K>(key: K) -> Version<K>
 }
 
 // The lines of the records behind a set-up, and the counts of all records: through a recorder with this store.
-#[tactic(auto, using(crate::proofs::Running::recorded_run, crate::proofs::Running::as_many))]
 fn add_run_in<K: TraceKey, S: Listable<K> + Drop>(
     text: &mut String,
     heap: Global,

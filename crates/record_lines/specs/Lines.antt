@@ -1,4 +1,4 @@
--- The lines of a listing.
+-- The lines of a listing: one for each record, and the last ones.
 use Rattle.std.specs.Prelude.{ℕ, ◌+◌, if◌then◌else◌, List, [], ◌∷◌, ◌++◌, Some, None, Ok, Err, Option, Result, is_ok}
 use Rattle.lines.specs.Lines.{line_text}
 use Rattle.lines.specs.declared.line.Piece.{Piece}

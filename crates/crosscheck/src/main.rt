@@ -9,10 +9,7 @@
 // as many events, while 65,536 bytes have room for a set-up and 6,552 of the shortest.
 #![tactic(auto)]
 
-mod comparison;
-mod examples;
-
-use comparison::Comparison;
+use comparison::comparison::Comparison;
 use std::process::ExitCode;
 use std::rt::Env;
 use std::{env, io};

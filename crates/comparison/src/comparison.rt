@@ -1,6 +1,5 @@
 // One trace, listed twice.
 
-use crate::examples::{self, EXAMPLES, PUT, PUT_RECORD};
 use listing::report;
 use made_traces::traces::write_trace;
 use naive::listing::add_listing as add_naive_listing;
@@ -8,6 +7,7 @@ use naive::tally::{Count, Tally};
 use naive_format::encoder::add_record;
 use std::alloc::{AllocError, Global};
 use std::io;
+use written_examples::examples::{self, EXAMPLES, PUT, PUT_RECORD};
 
 #[derive(Drop)]
 pub struct Comparison {

@@ -60,7 +60,7 @@ fn apply_all<B: ClockBank, K: KeyKind, S: Listable<K>>(
 }
 
 // Asks a recorder the questions one after another, and adds an answer for each.
-#[tactic(auto, using(crate::proofs::Gaining::gains_nothing, crate::proofs::Gaining::gains_more))]
+#[tactic(auto, using(crate::proofs::Gaining::gains_nothing))]
 fn ask_all<K: KeyKind, R: Asked<K>>(
     recorder: &R,
     questions: Vec<Question<K>>,

@@ -5,6 +5,7 @@ use clocks::trace_clocks::TraceClocks;
 use keys::point::Point;
 use messages::message::Message;
 use recorder::empty_store::EmptyStore;
+use refusals::refusal::Refusal;
 use replay::call::{Answer, Call, Question};
 use replay::replay::{Run, replay};
 use sorted_run::SortedRun;
@@ -63,27 +64,28 @@ fn list(heap: Global, places: usize) -> Result<Question<Point>, AllocError> {
     Ok(Question::UnderWay { rows })
 }
 
-// An answer in two numbers, or the number of its refusal: of an event its stamp code and drift, of a read the stamp and the node, of a
-// cut how many rows and the last one's stamp, of a list how many and the first one's number.
-fn seen(answer: &Answer<Point>) -> Result<(u64, u64), u8> {
-    match answer {
-        Answer::Event(result) => result
-            .map(|stamped| (stamped.stamp.code(), stamped.drift))
-            .map_err(|refusal| refusal.number()),
-        Answer::Loss(result) => result.map(|_| (0, 0)).map_err(|refusal| refusal.number()),
-        Answer::Read(result) => result
-            .map(|found| found.map_or((0, 0), |version| (version.stamp, u64::from(version.node))))
-            .map_err(|refusal| refusal.number()),
-        Answer::Cut { count, rows } => count
-            .map(|count| (count as u64, rows.last().map_or(0, |row| row.stamp)))
-            .map_err(|refusal| refusal.number()),
-        Answer::UnderWay { count, rows } => count
-            .map(|count| (
-                count as u64,
-                rows.first().map_or(0, |row| u64::from(row.number)),
-            ))
-            .map_err(|refusal| refusal.number()),
-    }
+// An answer in two numbers, or its refusal: of an event its stamp code and drift, of a read the stamp and the node, of a cut how
+// many rows and the last one's stamp, of a list how many and the first one's number.
+fn seen(answer: &Answer<Point>) -> Result<(u64, u64), Refusal> {
+    Ok(match answer {
+        Answer::Event(result) => {
+            let stamped = (*result)?;
+            (stamped.stamp.code(), stamped.drift)
+        }
+        Answer::Loss(result) => {
+            (*result)?;
+            (0, 0)
+        }
+        Answer::Read(result) => match (*result)? {
+            Some(version) => (version.stamp, u64::from(version.node)),
+            None => (0, 0),
+        },
+        Answer::Cut { count, rows } => ((*count)? as u64, rows.last().map_or(0, |row| row.stamp)),
+        Answer::UnderWay { count, rows } => (
+            (*count)? as u64,
+            rows.first().map_or(0, |row| u64::from(row.number)),
+        ),
+    })
 }
 
 // The calls of a run of two nodes, each with what it has to answer.
@@ -171,7 +173,7 @@ fn a_run_is_replayed(rt: HostRuntime) -> Result<(), Fail> {
     replay(Settings::new(2, 500)?, clocks, store, run, &mut answers)?;
     assert_eq!(rt; answers.len(), wanted.len());
     for (answer, wanted) in answers.iter().zip(wanted.iter()) {
-        assert_eq!(rt; seen(answer), *wanted);
+        assert_eq!(rt; seen(answer).map_err(|refusal| refusal.number()), *wanted);
     }
     Ok(())
 }

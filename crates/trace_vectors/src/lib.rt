@@ -1,5 +1,5 @@
-// Known traces, and what must come of them.
+// Known records, read and written.
 #![tactic(auto)]
 
 #[cfg(test)]
-mod traces;
+mod records;

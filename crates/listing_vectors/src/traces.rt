@@ -1,16 +1,15 @@
 use listing::report::{LONGEST, add_listing};
 use std::alloc::{AllocError, Global};
-use std::iter;
 use std::test::Fail;
-use trace::reader::entry_at;
-use trace::records::{Key, KeyBytes, Record};
-use trace::round::{copy_record, write_and_read};
 
 // A put by node 0 at raw 1000: point 7 is set to -9.000.
 const PUT: [u8; 18] = *b"\x05\x00\x00\x00\x00\x00\x00\x00\x03\xe8\x00\x00\x00\x07\xff\xff\xdc\xd8";
 
-// A send by node 0 to itself at raw 1000; the message's number is 0.
-const SEND: [u8; 15] = *b"\x02\x00\x00\x00\x00\x00\x00\x00\x03\xe8\x00\x00\x00\x00\x00";
+// A send by node 0 to itself at raw 1000, but for the last byte of the message's number.
+const SEND: [u8; 14] = *b"\x02\x00\x00\x00\x00\x00\x00\x00\x03\xe8\x00\x00\x00\x00";
+
+// The loss of the message 0.
+const LOSS: [u8; 5] = *b"\x04\x00\x00\x00\x00";
 
 // A set-up of one node, with points.
 const SETUP: [u8; 11] = *b"\x00\x01\x00\x00\x00\x00\x00\x00\x00\x00\x00";
@@ -38,68 +37,25 @@ fn listing_of(heap: Global, trace: &[u8]) -> Result<String, AllocError> {
 
 // The listing of a set-up and some bytes behind it.
 fn listing_behind(heap: Global, behind: &[u8]) -> Result<String, AllocError> {
-    let trace = SETUP
-        .iter()
-        .chain(behind)
-        .copied()
-        .collect::<Vec<u8>>(heap)?;
+    let mut trace = SETUP.to_vec(heap)?;
+    trace.extend_from_slice(behind)?;
     listing_of(heap, &trace)
 }
 
-// A kind's byte and a body of `len` zero bytes.
-fn record_bytes(heap: Global, kind: u8, len: usize) -> Result<Vec<u8>, AllocError> {
-    iter::once(kind).chain(iter::repeat_n(0, len)).collect(heap)
-}
-
-#[test]
-fn put_is_written(rt: HostRuntime) -> Result<(), Fail> {
-    let key = Key {
-        offset: 0,
-        bytes: KeyBytes::Point(&[0, 0, 0, 7]),
-    };
-    let put = Record::Put {
-        node: 0,
-        raw: 1000,
-        key,
-        value: -9000,
-    };
-    let mut buffer = [0xaa; 20];
-    let behind = put.write_to(&mut buffer, 1)?;
-    assert_eq!(rt; behind, 19);
-    assert_eq!(rt; &buffer[1..19], PUT.as_slice());
-    assert_eq!(rt; buffer[0], 0xaa);
-    assert_eq!(rt; buffer[19], 0xaa);
-    Ok(())
-}
-
-#[test]
-fn put_is_read(rt: HostRuntime) -> Result<(), Fail> {
-    let entry = entry_at(&PUT, 0)?.ok_or("none")?;
-    let Record::Put {
-        node,
-        raw,
-        key: Key {
-            offset,
-            bytes: KeyBytes::Point(point),
-        },
-        value,
-    } = entry.record
-    else {
-        return Err(Fail::new("another kind"));
-    };
-    assert_eq!(rt; node, 0);
-    assert_eq!(rt; raw, 1000);
-    assert_eq!(rt; offset, 10);
-    assert_eq!(rt; u32::from_be_bytes(*point), 7);
-    assert_eq!(rt; value, -9000);
-    Ok(())
+// The listing of a set-up and a record behind it, of a kind and a body of so many zero bytes.
+fn listing_of_kind(heap: Global, kind: u8, len: usize) -> Result<String, AllocError> {
+    let mut trace = SETUP.to_vec(heap)?;
+    trace.push(kind)?;
+    for _ in 0..len {
+        trace.push(0)?;
+    }
+    listing_of(heap, &trace)
 }
 
 #[test]
 fn every_kind(rt: HostRuntime) -> Result<(), Fail> {
     for (kind, len, text) in KINDS {
-        let bytes = record_bytes(rt.alloc(), kind, len)?;
-        let listed = listing_behind(rt.alloc(), bytes.as_slice())?;
+        let listed = listing_of_kind(rt.alloc(), kind, len)?;
         assert_eq!(rt; listed.as_str().strip_prefix("1 setup\n"), Some(text));
     }
     Ok(())
@@ -109,8 +65,7 @@ fn every_kind(rt: HostRuntime) -> Result<(), Fail> {
 fn every_kind_cut_short(rt: HostRuntime) -> Result<(), Fail> {
     for (kind, len, _) in KINDS {
         for kept in 0..len {
-            let bytes = record_bytes(rt.alloc(), kind, kept)?;
-            let listed = listing_behind(rt.alloc(), bytes.as_slice())?;
+            let listed = listing_of_kind(rt.alloc(), kind, kept)?;
             assert_eq!(rt; listed.as_str(), "1 setup\nbad 2 at 11\nend 1 0\n");
         }
     }
@@ -172,50 +127,23 @@ fn empty(rt: HostRuntime) -> Result<(), Fail> {
     Ok(())
 }
 
-// A record of each kind, with a body of the bytes 1, 2, 3 and so on, is copied byte for byte, and
-// read back from the copy.
-#[test]
-fn every_kind_round(rt: HostRuntime) -> Result<(), Fail> {
-    for (kind, len, _) in KINDS {
-        let bytes = iter::once(kind)
-            .chain((1..=len).map(|i| (i % 256) as u8))
-            .collect::<Vec<u8>>(rt.alloc())?;
-        let mut buffer = [0xaa; 40];
-        let behind = copy_record(bytes.as_slice(), 0, &mut buffer, 3)?.ok_or("none")?;
-        assert_eq!(rt; behind, len.saturating_add(4));
-        assert_eq!(rt; buffer.get(3..behind).ok_or("short")?, bytes.as_slice());
-        let entry = entry_at(&buffer, 3)?.ok_or("none")?;
-        let mut second = [0xbb; 40];
-        let back = &write_and_read(&entry.record, &mut second, 3);
-        let found = back.found?;
-        assert_eq!(rt; found.offset, 3);
-        assert_eq!(rt;
-            back.buffer.get(3..behind).ok_or("short")?,
-            bytes.as_slice()
-        );
-    }
-    Ok(())
-}
-
-// As many losses as fill a trace of `len` bytes, and the bytes of kind that are left over.
-fn losses(heap: Global, len: usize) -> Result<Vec<u8>, AllocError> {
-    (0..len)
-        .map(|i| if i % 5 == 0 { 4 } else { 0 })
-        .collect(heap)
+// As many losses as fill a trace behind a set-up.
+fn losses(heap: Global) -> Result<Vec<u8>, AllocError> {
+    LOSS.repeat(heap, (LONGEST - SETUP.len()) / LOSS.len())
 }
 
 #[test]
 fn longest(rt: HostRuntime) -> Result<(), Fail> {
-    let bytes = losses(rt.alloc(), LONGEST - SETUP.len())?;
-    let listed = listing_behind(rt.alloc(), bytes.as_slice())?;
+    let listed = listing_behind(rt.alloc(), &losses(rt.alloc())?)?;
     assert!(rt; listed.as_str().ends_with("13106 refused 13\nend 1 13105\n"));
     Ok(())
 }
 
 #[test]
 fn too_long(rt: HostRuntime) -> Result<(), Fail> {
-    let bytes = losses(rt.alloc(), LONGEST + 1)?;
-    let listed = listing_of(rt.alloc(), bytes.as_slice())?;
+    let mut bytes = losses(rt.alloc())?;
+    bytes.push(4)?;
+    let listed = listing_behind(rt.alloc(), &bytes)?;
     assert_eq!(rt; listed.as_str(), "too long\n");
     Ok(())
 }
@@ -225,22 +153,18 @@ fn too_long(rt: HostRuntime) -> Result<(), Fail> {
 fn limits(rt: HostRuntime) -> Result<(), Fail> {
     let listed = listing_of(rt.alloc(), b"\x00\x10\x01\x05\x26\x5c\x00\x05\x26\x5c\x00")?;
     assert_eq!(rt; listed.as_str(), "1 setup\nend 1 0\n");
-    let sends = (0..65 * SEND.len())
-        .map(|i| match i % SEND.len() {
-            14 => (i / SEND.len()) as u8,
-            place => SEND[place],
-        })
-        .collect::<Vec<u8>>(rt.alloc())?;
+    let mut sends = Vec::new(rt.alloc());
+    for number in 0..65 {
+        sends.extend_from_slice(&SEND)?;
+        sends.push(number)?;
+    }
     let listed = listing_behind(rt.alloc(), &sends)?;
     assert!(rt;
         listed
             .as_str()
             .ends_with("65 send 0 1000.63 drift 0\n66 refused 12\nend 65 1\n")
     );
-    let puts = (0..1025 * PUT.len())
-        .map(|i| PUT[i % PUT.len()])
-        .collect::<Vec<u8>>(rt.alloc())?;
-    let listed = listing_behind(rt.alloc(), &puts)?;
+    let listed = listing_behind(rt.alloc(), &PUT.repeat(rt.alloc(), 1025)?)?;
     assert!(rt;
         listed.as_str().ends_with("1025 put 0 1000.1023 drift 0\n1026 refused 16\nend 1025 1\n")
     );

@@ -1,0 +1,5 @@
+// Known clocks, and what they must read.
+#![tactic(auto)]
+
+#[cfg(test)]
+mod clocks;

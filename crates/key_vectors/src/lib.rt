@@ -1,0 +1,5 @@
+// Known names, and whether they are tags.
+#![tactic(auto)]
+
+#[cfg(test)]
+mod tags;

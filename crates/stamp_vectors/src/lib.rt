@@ -1,0 +1,5 @@
+// Known events, and the stamps that they must have.
+#![tactic(auto)]
+
+#[cfg(test)]
+mod stamps;

@@ -4,8 +4,6 @@ use search_tree::{Node, SearchTree};
 use sorted_run::SortedRun;
 use std::process::Abort;
 use std::test::Fail;
-use store::cut::cut;
-use store::listable::Listable;
 use store::version::Version;
 use store::version_store::VersionStore;
 
@@ -25,7 +23,7 @@ fn number<T: Drop>(answer: Result<T, Refusal>) -> Option<u8> {
 }
 
 // What comes of versions that are added in turn: the number of the refusal, if there is one.
-fn adds_are_answered<S: Listable<Point>>(
+fn adds_are_answered<S: VersionStore<Point>>(
     rt: &impl Abort,
     store: &mut S,
     adds: &[(Version<Point>, Option<u8>)],
@@ -36,7 +34,7 @@ fn adds_are_answered<S: Listable<Point>>(
 }
 
 // The value that a read of a key at a stamp answers.
-fn reads_are_answered<S: Listable<Point>>(
+fn reads_are_answered<S: VersionStore<Point>>(
     rt: &impl Abort,
     store: &S,
     reads: &[(u32, u64, Option<i32>)],
@@ -48,10 +46,8 @@ fn reads_are_answered<S: Listable<Point>>(
 }
 
 // A store of eight places: three keys, a tie between nodes, and the ends of the stamps.
-fn eight_places_answer<S: Listable<Point>>(rt: &impl Abort, store: &mut S) {
+fn eight_places_answer<S: VersionStore<Point>>(rt: &impl Abort, store: &mut S) {
     assert_eq!(rt; (store.count(), store.capacity()), (0, 8));
-    assert_eq!(rt; store.first_key(), None);
-    assert_eq!(rt; store.next_key(Point(0)), None);
     reads_are_answered(rt, store, &[(7, u64::MAX, None)]);
     let adds = [
         (of(7, 500, 1, 71), None),
@@ -82,8 +78,6 @@ fn eight_places_answer<S: Listable<Point>>(rt: &impl Abort, store: &mut S) {
         (10, u64::MAX, None),
     ];
     reads_are_answered(rt, store, &reads);
-    keys_are_told(rt, store);
-    pages_are_cut(rt, store);
     // A repeated version is refused, whatever its value; a full store refuses a new one, and a repeated one as before.
     let adds = [
         (of(7, 500, 3, 0), Some(17)),
@@ -96,46 +90,7 @@ fn eight_places_answer<S: Listable<Point>>(rt: &impl Abort, store: &mut S) {
     reads_are_answered(rt, store, &[(7, 500, Some(72))]);
 }
 
-// Keys that are there, and keys between keys.
-fn keys_are_told<S: Listable<Point>>(rt: &impl Abort, store: &S) {
-    assert_eq!(rt; store.first_key(), Some(Point(4)));
-    for (key, next) in [
-        (0, Some(Point(4))),
-        (3, Some(Point(4))),
-        (4, Some(Point(7))),
-        (5, Some(Point(7))),
-        (7, Some(Point(9))),
-        (8, Some(Point(9))),
-        (9, None),
-        (u32::MAX, None),
-    ] {
-        assert_eq!(rt; store.next_key(Point(key)), next, "{key}");
-    }
-}
-
-// Cuts of that store, before its last place is filled.
-fn pages_are_cut<S: Listable<Point>>(rt: &impl Abort, store: &S) {
-    let blank = of(0, 0, 0, -1);
-    let (first, last) = (of(4, 0, 0, 40), of(4, 500, 0, 41));
-    let newest = of(7, 900, 0, 73);
-    for (stamp, count, page) in [
-        (0, 1, [first, blank, blank, blank]),
-        (499, 1, [first, blank, blank, blank]),
-        (500, 2, [last, of(7, 500, 3, 72), blank, blank]),
-        (900, 2, [last, newest, blank, blank]),
-        (u64::MAX, 3, [last, newest, of(9, u64::MAX, 255, 91), blank]),
-    ] {
-        let mut rows = [blank; 4];
-        assert_eq!(rt; cut(store, stamp, &mut rows), Ok(count), "{stamp}");
-        assert_eq!(rt; rows, page, "{stamp}");
-    }
-    // A row too few, and none changes.
-    let mut rows = [blank; 2];
-    assert_eq!(rt; number(cut(store, u64::MAX, &mut rows)), Some(19));
-    assert_eq!(rt; rows, [blank; 2]);
-}
-
-fn one_place_answers<S: Listable<Point>>(rt: &impl Abort, store: &mut S) {
+fn one_place_answers<S: VersionStore<Point>>(rt: &impl Abort, store: &mut S) {
     let adds = [
         (of(1, 1, 1, 1), None),
         (of(1, 1, 1, 2), Some(17)),
@@ -146,11 +101,9 @@ fn one_place_answers<S: Listable<Point>>(rt: &impl Abort, store: &mut S) {
     reads_are_answered(rt, store, &[(1, 1, Some(1)), (1, 0, None)]);
 }
 
-fn no_place_answers<S: Listable<Point>>(rt: &impl Abort, store: &mut S) {
+fn no_place_answers<S: VersionStore<Point>>(rt: &impl Abort, store: &mut S) {
     adds_are_answered(rt, store, &[(of(1, 1, 1, 1), Some(16))]);
     assert_eq!(rt; (store.count(), store.capacity()), (0, 0));
-    assert_eq!(rt; store.first_key(), None);
-    assert_eq!(rt; cut(store, u64::MAX, &mut []), Ok(0));
 }
 
 #[test]

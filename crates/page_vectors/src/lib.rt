@@ -1,0 +1,7 @@
+// Known stores, and the pages that are cut from them; a run and a tree of the same versions, place by place.
+#![tactic(auto)]
+
+#[cfg(test)]
+mod pages;
+#[cfg(test)]
+mod tags;

@@ -21,6 +21,7 @@ impl<B: ClockBank> OffsetLayer<B> {
     pub fn new(below: B, offsets: [Offset; NODES]) -> OffsetLayer<B>
         ensures fresh { ⟦<OffsetLayer<B> as ClockBank>⟧.meaning result ≡ offset_meaning offsets (B.meaning below) }
         ensures below { bank_below result ≡ below }
+        ensures offsets { offsets_of result ≡ offsets }
     {
         OffsetLayer { below, offsets }
     }

@@ -19,6 +19,7 @@ pub fn take_all<B: ClockBank>(
         OnOk result (took samples.now answers.old.items answers.new.items) }
     ensures bank_stays { OnErr result (bank.new ≡ bank.old) }
     ensures answers_stay { OnErr result (answers.new.items ≡ answers.old.items) }
+    ensures no_growth { OnErr result (vec_capacity answers.new ≡ vec_capacity answers.old) }
     ensures capacity { vec_capacity answers.old ≤ vec_capacity answers.new }
     ensures room { vec_len answers.old + length samples.now ≤ vec_capacity answers.old → IsOk result }
 {

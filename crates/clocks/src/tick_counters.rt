@@ -21,7 +21,8 @@ pub struct TickCounters {
 impl TickCounters {
     // Counters from which nothing was taken yet.
     pub fn new(ticks: [Tick; NODES]) -> TickCounters
-        ensures { ⟦<TickCounters as ClockBank>⟧.meaning result ≡ fresh_ticks ticks }
+        ensures fresh { ⟦<TickCounters as ClockBank>⟧.meaning result ≡ fresh_ticks ticks }
+        ensures ticks { ticks_of result ≡ ticks }
     {
         TickCounters {
             ticks,

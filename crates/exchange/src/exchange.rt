@@ -5,7 +5,7 @@ ghost use Rattle.exchange.specs.Changes.{with_event};
 ghost use Rattle.exchange.specs.State.{GoesForward, fresh_exchange, is_node};
 ghost use Rattle.messages.specs.Messages.{AreDistinct, message_numbers, most_under_way};
 ghost use Rattle.refusals.specs.Refusals.{result_map, shown};
-ghost use Rattle.stamper.specs.Readings.{TookReading};
+ghost use Rattle.stamper.specs.Readings.{TookReading, WasAsked};
 ghost use Rattle.stamper.specs.Settings.{setting_numbers};
 ghost use Rattle.stamper.specs.Stamps.{none_below, stamp_at};
 ghost use Rattle.stamps.specs.Rules.{stamped_numbers};
@@ -80,15 +80,17 @@ impl<B: ClockBank> Exchange<B> {
     }
 
     // An event gets this stamp: its reading is taken, and the stamp is the node's last. Refused with 7, and then as the clock
-    // refuses; then no last stamp changes, nor what the clocks mean.
+    // refuses; then nothing changes, nor what the clocks mean.
     pub fn enter(&mut self, sample: Sample, stamped: Stamped) -> Result<(), Refusal>
         ensures answer { shown result ≡ enter_answer B.meaning self.old sample }
         ensures change { OnOk result (self.new
             ≡ with_event self.old sample.node (stamp_of stamped.stamp) self.new.bank self.old.messages) }
         ensures reading { OnOk result (TookReading B.meaning B.beside sample
             (Ok (stamped_numbers stamped)) self.old.bank self.new.bank) }
-        ensures refused { OnErr result (self.new.last ≡ self.old.last) }
+        ensures refused { OnErr result (self.new ≡ record self.old { bank = self.new.bank }) }
         ensures unmoved { OnErr result (B.meaning self.new.bank ≡ B.meaning self.old.bank) }
+        ensures beside { let nodes = length self.old.last in
+            WasAsked B.meaning B.beside nodes sample self.old.bank self.new.bank }
     {
         self.stamper.enter(sample, stamped)
     }

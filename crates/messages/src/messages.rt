@@ -33,7 +33,8 @@ impl Model for Messages {
 
 impl Messages {
     pub fn new() -> Messages
-        ensures { result ≡ [] }
+        ensures none { result ≡ [] }
+        ensures most { MAX_UNDER_WAY ≡ most_under_way }
     {
         Messages {
             under_way: ArrayVec::new(),

@@ -1,5 +1,5 @@
 -- What becomes of a clock's reading.
-use Rattle.std.specs.Prelude.{◌≡◌, ℕ, if◌then◌else◌, length, nat_lt, Ok, Err, Result}
+use Rattle.std.specs.Prelude.{◌≡◌, ◌<◌, ◌≤◌, ℕ, if◌then◌else◌, length, nat_lt, Ok, Err, Result}
 use Rattle.clocks.specs.Bank.{Meaning, Taken, look_answer}
 use Rattle.clocks.specs.declared.sample.Sample.{Sample}
 use Rattle.stamps.specs.Rules.{StampedNumbers}
@@ -30,3 +30,11 @@ TookReading meaning beside sample (Ok event) old new =
     let reading : Result ℕ ℕ = look_answer (meaning old) sample.node sample.raw.0 in
     Taken reading sample.node (meaning old) (meaning new) × beside sample reading old new
 TookReading meaning beside sample (Err number) old new = new ≡ old
+
+-- Whether the event is entered or refused: where so many nodes have it, the bank did what else a take of its kind does when it
+-- answers so; where they have not, the bank was left alone.
+abbrev pub WasAsked : {B : Type 0} (meaning : B → Meaning) (beside : Sample → Result ℕ ℕ → B → B → Type 0)
+    (nodes : ℕ) → Sample → B → B → Type 0
+WasAsked meaning beside nodes sample old new =
+    (sample.node < nodes → beside sample (look_answer (meaning old) sample.node sample.raw.0) old new)
+    × (nodes ≤ sample.node → new ≡ old)

@@ -2,7 +2,7 @@
 ghost use Rattle.std.specs.Prelude.{◌≡◌, ◌<◌, length, nat_lt, IfOk, Ok, OnErr, OnOk};
 ghost use Rattle.clocks.specs.Bank.{look_answer};
 ghost use Rattle.refusals.specs.Refusals.{result_map, shown};
-ghost use Rattle.stamper.specs.Readings.{TookReading, at_reading, enter_answer};
+ghost use Rattle.stamper.specs.Readings.{TookReading, WasAsked, at_reading, enter_answer};
 ghost use Rattle.stamper.specs.Settings.{setting_numbers};
 ghost use Rattle.stamper.specs.Stamps.{fresh_stamping, none_below, stamp_at, with_last};
 ghost use Rattle.stamps.specs.Rules.{lead_receipt_answer, own_answer, stamped_numbers};
@@ -95,6 +95,8 @@ impl<B: ClockBank> Stamper<B> {
             ≡ with_last sample.node (stamp_of stamped.stamp) self.old.last) }
         ensures refused { OnErr result (self.new.last ≡ self.old.last) }
         ensures unmoved { OnErr result (B.meaning self.new.bank ≡ B.meaning self.old.bank) }
+        ensures beside { let nodes = length self.old.last in
+            WasAsked B.meaning B.beside nodes sample self.old.bank self.new.bank }
     {
         if !self.has(sample.node) {
             return Err(Refusal::NoSuchNode);

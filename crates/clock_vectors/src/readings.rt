@@ -20,6 +20,11 @@ fn millis(given: Result<Reading, Refusal>) -> Result<u64, u8> {
         .map_err(|refusal| refusal.number())
 }
 
+// The number of a refusal, if there is one.
+fn number<T: Drop>(answer: Result<T, Refusal>) -> Option<u8> {
+    Some(answer.err()?.number())
+}
+
 // A node's raw number.
 fn sample(node: u8, raw: u64) -> Sample {
     Sample {
@@ -124,10 +129,10 @@ fn offset_at_both_ends(rt: HostRuntime) -> Result<(), Fail> {
 
 #[test]
 fn settings_out_of_range(rt: HostRuntime) {
-    assert!(rt; Backstep::new(86_400_001).is_err());
-    assert!(rt; Offset::new(-86_400_001).is_err());
-    assert!(rt; Offset::new(86_400_001).is_err());
-    assert!(rt; Tick::new(281_474_976_710_656, 1).is_err());
-    assert!(rt; Tick::new(0, 0).is_err());
-    assert!(rt; Tick::new(0, 1001).is_err());
+    assert_eq!(rt; number(Backstep::new(86_400_001)), Some(4));
+    assert_eq!(rt; number(Offset::new(-86_400_001)), Some(4));
+    assert_eq!(rt; number(Offset::new(86_400_001)), Some(4));
+    assert_eq!(rt; number(Tick::new(281_474_976_710_656, 1)), Some(4));
+    assert_eq!(rt; number(Tick::new(0, 0)), Some(4));
+    assert_eq!(rt; number(Tick::new(0, 1001)), Some(4));
 }

@@ -9,6 +9,7 @@ use std::alloc::{AllocError, Global};
 use std::io;
 use written_examples::examples::{self, EXAMPLES, PUT, PUT_RECORD};
 
+// A trace and its two listings, which the next one overwrites; and what was met in all of them.
 #[derive(Drop)]
 pub struct Comparison {
     heap: Global,

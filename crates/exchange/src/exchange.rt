@@ -22,6 +22,7 @@ use stamper::stamper::Stamper;
 use stamps::stamped::Stamped;
 use std::marker::Model;
 
+// The nodes of a circuit, and the messages under way between them.
 #[derive(Drop)]
 pub struct Exchange<B> {
     pub(crate) stamper: Stamper<B>,

@@ -13,9 +13,9 @@ impl<B> Exchange<B> {
         ensures answer { shown result ≡ loss_answer self.old number }
         ensures change { self.new ≡ after_loss self.old number (shown result) }
     {
-        let Some(_) = self.messages.find(number) else {
+        if self.messages.find(number).is_none() {
             return Err(Refusal::NumberNotUnderWay);
-        };
+        }
         self.messages.remove(number);
         Ok(())
     }

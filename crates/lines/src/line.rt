@@ -2,6 +2,7 @@
 ghost use Rattle.std.specs.Prelude.{◌≡◌};
 ghost use Rattle.lines.specs.Lines.{word_text};
 
+// The words that stand in a line.
 #[derive(Clone, Copy, PartialEq, Eq, Debug)]
 pub enum Word {
     SetUp,
@@ -44,6 +45,7 @@ impl Word {
     }
 }
 
+// What stands between two spaces of a line.
 #[derive(Clone, Copy, PartialEq, Eq, Debug)]
 pub enum Piece {
     Word(Word),

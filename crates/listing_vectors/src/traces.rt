@@ -53,7 +53,7 @@ fn listing_of_kind(heap: Global, kind: u8, len: usize) -> Result<String, AllocEr
 }
 
 #[test]
-fn every_kind(rt: HostRuntime) -> Result<(), Fail> {
+fn each_kind_of_zero_bytes_is_listed(rt: HostRuntime) -> Result<(), Fail> {
     for (kind, len, text) in KINDS {
         let listed = listing_of_kind(rt.alloc(), kind, len)?;
         assert_eq!(rt; listed.as_str().strip_prefix("1 setup\n"), Some(text));
@@ -62,7 +62,7 @@ fn every_kind(rt: HostRuntime) -> Result<(), Fail> {
 }
 
 #[test]
-fn every_kind_cut_short(rt: HostRuntime) -> Result<(), Fail> {
+fn each_kind_cut_short_is_bad(rt: HostRuntime) -> Result<(), Fail> {
     for (kind, len, _) in KINDS {
         for kept in 0..len {
             let listed = listing_of_kind(rt.alloc(), kind, kept)?;
@@ -73,7 +73,7 @@ fn every_kind_cut_short(rt: HostRuntime) -> Result<(), Fail> {
 }
 
 #[test]
-fn unknown_kind(rt: HostRuntime) -> Result<(), Fail> {
+fn an_unknown_kind_is_bad(rt: HostRuntime) -> Result<(), Fail> {
     let alone = listing_of(rt.alloc(), &[9])?;
     assert_eq!(rt; alone.as_str(), "bad 1 at 0\nend 0 0\n");
     let behind = listing_behind(rt.alloc(), &[4, 0, 0, 0, 1, 255, 0])?;
@@ -86,7 +86,7 @@ fn unknown_kind(rt: HostRuntime) -> Result<(), Fail> {
 
 // A first record that is no set-up, and one out of range: no node, 17 nodes, a key kind of 2, a lead and a backstep of a day and 1 ms.
 #[test]
-fn first_record(rt: HostRuntime) -> Result<(), Fail> {
+fn a_first_record_that_sets_nothing_up_is_bad(rt: HostRuntime) -> Result<(), Fail> {
     let listed = listing_of(rt.alloc(), &[4, 0, 0, 0, 1])?;
     assert_eq!(rt; listed.as_str(), "bad 5 at 0\nend 0 0\n");
     for bytes in [
@@ -121,7 +121,7 @@ fn tags_are_listed(rt: HostRuntime) -> Result<(), Fail> {
 }
 
 #[test]
-fn empty(rt: HostRuntime) -> Result<(), Fail> {
+fn an_empty_trace_has_only_its_end(rt: HostRuntime) -> Result<(), Fail> {
     let listed = listing_of(rt.alloc(), &[])?;
     assert_eq!(rt; listed.as_str(), "end 0 0\n");
     Ok(())
@@ -133,14 +133,14 @@ fn losses(heap: Global) -> Result<Vec<u8>, AllocError> {
 }
 
 #[test]
-fn longest(rt: HostRuntime) -> Result<(), Fail> {
+fn a_trace_of_65536_bytes_is_listed(rt: HostRuntime) -> Result<(), Fail> {
     let listed = listing_behind(rt.alloc(), &losses(rt.alloc())?)?;
     assert!(rt; listed.as_str().ends_with("13106 refused 13\nend 1 13105\n"));
     Ok(())
 }
 
 #[test]
-fn too_long(rt: HostRuntime) -> Result<(), Fail> {
+fn a_byte_more_is_too_long(rt: HostRuntime) -> Result<(), Fail> {
     let mut bytes = losses(rt.alloc())?;
     bytes.push(4)?;
     let listed = listing_behind(rt.alloc(), &bytes)?;
@@ -150,7 +150,7 @@ fn too_long(rt: HostRuntime) -> Result<(), Fail> {
 
 // Sixteen nodes and a day are in range; 64 messages may be under way, and there is room for 1,024 versions.
 #[test]
-fn limits(rt: HostRuntime) -> Result<(), Fail> {
+fn limits_are_in_range(rt: HostRuntime) -> Result<(), Fail> {
     let listed = listing_of(rt.alloc(), b"\x00\x10\x01\x05\x26\x5c\x00\x05\x26\x5c\x00")?;
     assert_eq!(rt; listed.as_str(), "1 setup\nend 1 0\n");
     let mut sends = Vec::new(rt.alloc());

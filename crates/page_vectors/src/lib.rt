@@ -1,4 +1,4 @@
-// Known stores, and the pages that are cut from them; a run and a tree of the same versions, place by place.
+// Known stores, and the pages that are cut from them; a run and a tree of the same versions, question by question.
 #![tactic(auto)]
 
 #[cfg(test)]

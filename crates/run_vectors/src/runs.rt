@@ -15,6 +15,9 @@ use std::alloc::{AllocError, Global};
 use std::test::Fail;
 use store::version::Version;
 
+// What is seen of an answer.
+type Seen = (u64, u64, i32);
+
 // What fills a place that nothing was written to.
 fn blank() -> Version<Point> {
     Version {
@@ -64,42 +67,51 @@ fn list(heap: Global, places: usize) -> Result<Question<Point>, AllocError> {
     Ok(Question::UnderWay { rows })
 }
 
-// An answer in two numbers, or its refusal: of an event its stamp code and drift, of a read the stamp and the node, of a cut how
-// many rows and the last one's stamp, of a list how many and the first one's number.
-fn seen(answer: &Answer<Point>) -> Result<(u64, u64), Refusal> {
+// An answer in three numbers, or its refusal: of an event its stamp code and drift, of a read the stamp, the node and the value, of
+// a cut how many rows and the last one's stamp and value, of a list how many and the first one's number.
+fn seen(answer: &Answer<Point>) -> Result<Seen, Refusal> {
     Ok(match answer {
         Answer::Event(result) => {
             let stamped = (*result)?;
-            (stamped.stamp.code(), stamped.drift)
+            (stamped.stamp.code(), stamped.drift, 0)
         }
         Answer::Loss(result) => {
             (*result)?;
-            (0, 0)
+            (0, 0, 0)
         }
         Answer::Read(result) => match (*result)? {
-            Some(version) => (version.stamp, u64::from(version.node)),
-            None => (0, 0),
+            Some(version) => (version.stamp, u64::from(version.node), version.value),
+            None => (0, 0, 0),
         },
-        Answer::Cut { count, rows } => ((*count)? as u64, rows.last().map_or(0, |row| row.stamp)),
-        Answer::UnderWay { count, rows } => (
-            (*count)? as u64,
-            rows.first().map_or(0, |row| u64::from(row.number)),
-        ),
+        Answer::Cut { count, rows } => {
+            let count = (*count)? as u64;
+            match rows.last() {
+                Some(row) => (count, row.stamp, row.value),
+                None => (count, 0, 0),
+            }
+        }
+        Answer::UnderWay { count, rows } => {
+            let count = (*count)? as u64;
+            match rows.first() {
+                Some(row) => (count, u64::from(row.number), 0),
+                None => (count, 0, 0),
+            }
+        }
     })
 }
 
-// The calls of a run of two nodes, each with what it has to answer.
-fn calls(heap: Global) -> Result<Vec<(Call<Point>, Result<(u64, u64), u8>)>, AllocError> {
+// Every call in a run of two nodes, each with what it has to answer.
+fn calls(heap: Global) -> Result<Vec<(Call<Point>, Result<Seen, u8>)>, AllocError> {
     Ok(vec![in heap;
-        (put(0, 1000, 7, -9000), Ok((65_536_000, 0))),
-        (put(1, 1000, 7, -8000), Ok((65_536_000, 0))),
+        (put(0, 1000, 7, -9000), Ok((65_536_000, 0, 0))),
+        (put(1, 1000, 7, -8000), Ok((65_536_000, 0, 0))),
         (
             Call::Send {
                 sample: sample(0, 1000),
                 to: 1,
                 number: 1
             },
-            Ok((65_536_001, 0))
+            Ok((65_536_001, 0, 0))
         ),
         (
             Call::Send {
@@ -109,10 +121,13 @@ fn calls(heap: Global) -> Result<Vec<(Call<Point>, Result<(u64, u64), u8>)>, All
             },
             Err(11)
         ),
-        (Call::Ask(list(heap, 1)?), Ok((1, 1))),
-        (Call::Ask(read(7, 65_536_000)), Ok((65_536_000, 1))),
+        (Call::Ask(list(heap, 1)?), Ok((1, 1, 0))),
+        (Call::Ask(read(7, 65_536_000)), Ok((65_536_000, 1, -8000))),
         (Call::Ask(cut(heap, 65_536_000, 0)?), Err(19)),
-        (Call::Ask(cut(heap, 65_536_000, 1)?), Ok((1, 65_536_000))),
+        (
+            Call::Ask(cut(heap, 65_536_000, 1)?),
+            Ok((1, 65_536_000, -8000))
+        ),
         (Call::Ask(read(7, 65_536_001)), Err(18)),
         (Call::Loss { number: 2 }, Err(13)),
         (
@@ -127,25 +142,40 @@ fn calls(heap: Global) -> Result<Vec<(Call<Point>, Result<(u64, u64), u8>)>, All
                 sample: sample(1, 990),
                 number: 1
             },
-            Ok((65_536_002, 10))
+            Ok((65_536_002, 10, 0))
         ),
-        (Call::Ask(list(heap, 0)?), Ok((0, 0))),
+        (Call::Ask(list(heap, 0)?), Ok((0, 0, 0))),
+        (
+            Call::Note {
+                sample: sample(0, 1000)
+            },
+            Ok((65_536_002, 0, 0))
+        ),
+        (
+            Call::Send {
+                sample: sample(0, 1000),
+                to: 1,
+                number: 3
+            },
+            Ok((65_536_003, 0, 0))
+        ),
+        (Call::Loss { number: 3 }, Ok((0, 0, 0))),
         (put(0, 979, 7, 1), Err(9)),
         (put(2, 1000, 7, 1), Err(7)),
-        (put(0, 1001, 9, 1), Ok((65_601_536, 0))),
-        (put(0, 1001, 9, 2), Ok((65_601_537, 0))),
+        (put(0, 1001, 9, 1), Ok((65_601_536, 0, 0))),
+        (put(0, 1001, 9, 2), Ok((65_601_537, 0, 0))),
         (put(0, 1001, 9, 3), Err(16)),
     ]?)
 }
 
 // And the questions to it once it is closed.
-fn questions(heap: Global) -> Result<Vec<(Question<Point>, Result<(u64, u64), u8>)>, AllocError> {
+fn questions(heap: Global) -> Result<Vec<(Question<Point>, Result<Seen, u8>)>, AllocError> {
     Ok(vec![in heap;
-        (read(9, u64::MAX), Ok((65_601_537, 0))),
-        (read(8, u64::MAX), Ok((0, 0))),
-        (cut(heap, u64::MAX, 2)?, Ok((2, 65_601_537))),
+        (read(9, u64::MAX), Ok((65_601_537, 0, 2))),
+        (read(8, u64::MAX), Ok((0, 0, 0))),
+        (cut(heap, u64::MAX, 2)?, Ok((2, 65_601_537, 2))),
         (cut(heap, u64::MAX, 1)?, Err(19)),
-        (list(heap, 3)?, Ok((0, 0))),
+        (list(heap, 3)?, Ok((0, 0, 0))),
     ]?)
 }
 

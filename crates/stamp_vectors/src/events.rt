@@ -70,5 +70,6 @@ fn counter_spent(rt: HostRuntime) -> Result<(), Fail> {
 
 #[test]
 fn lead_out_of_range(rt: HostRuntime) {
-    assert!(rt; Lead::new(86_400_001).is_err());
+    let refused = Lead::new(86_400_001).err();
+    assert_eq!(rt; refused.map(|refusal| refusal.number()), Some(4));
 }

@@ -50,7 +50,8 @@ impl TraceKey for Tag {
     }
 }
 
-// The call of a record, or why it is refused before the recorder sees it.
+// The call of a record, or why it is refused before the recorder sees it. (Inline, since its result would be copied once more for
+// each record.)
 #[inline(always)]
 pub fn call_for<K: TraceKey>(entry: &Record) -> Result<Call<K>, Refusal>
     ensures { shown result ≡ call_of K.form (content_of entry.now) }

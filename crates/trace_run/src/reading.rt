@@ -26,6 +26,7 @@ pub struct Records<'a> {
     pub bad: Option<Bad>,
 }
 
+// Reads a trace up to its end, or to the place that is refused.
 pub fn read_records(heap: Global, trace: &[u8]) -> Result<Records<'_>, AllocError>
     ensures records { IfOk result (λ r. map content_of r.list.items ≡ (whole_of trace.now).records) }
     ensures ending { IfOk result (λ r. ending_of r.bad ≡ (whole_of trace.now).ending) }

@@ -32,6 +32,7 @@ impl TryFrom<u8> for Keys {
     }
 }
 
+// What a trace's first record sets.
 #[derive(Clone, Copy, Debug)]
 pub struct SetUp {
     pub settings: Settings,

@@ -9,8 +9,10 @@ loop-question-preserved g c =
     record {
       can = tt;
       finite = tt;
-      questions = rw (append_assoc c.loop-question.yielded (c.in-Some.question ∷ []) c.next.new.self.rest.items, ← taken) so_far.questions;
+      questions =
+          rw (append_assoc c.loop-question.yielded (c.in-Some.question ∷ []) c.next.new.self.rest.items, ← taken) so_far.questions;
       room = omega (arith, c.push_reserved.ensures.len, ap length taken, so_far.room, c.push_reserved.ensures.capacity);
       capacity = rw c.push_reserved.ensures.capacity so_far.capacity;
-      each = gains_more _ _ {after = c.push_reserved.new.self.items} c.in-Some.question c.ask.result so_far.each c.ask.ensures c.push_reserved.ensures.items;
+      each = gains_more _ _ {after = c.push_reserved.new.self.items} c.in-Some.question c.ask.result so_far.each c.ask.ensures
+          c.push_reserved.ensures.items;
     }

@@ -13,6 +13,7 @@ day_millis = 86400000
 abbrev pub max_step : ℕ
 max_step = 1000
 
+-- is the number a reading?
 abbrev pub is_reading : ℕ → Bool
 is_reading millis = nat_le 1 millis && nat_le millis max_reading
 

@@ -8,6 +8,7 @@ abbrev pub rising_answer : ℕ → Result ℕ ℕ → Result ℕ ℕ
 rising_answer high (Ok reading) = Ok (max reading high)
 rising_answer high (Err number) = Err number
 
+-- a clock that never falls below its high, over the clock below
 abbrev pub rising_clock : ℕ → Clock → Clock
 rising_clock high below = record {
   high = high;
@@ -15,6 +16,7 @@ rising_clock high below = record {
   answer = λ raw. rising_answer high (below.answer raw);
 }
 
+-- such a clock for each node
 abbrev pub rising_meaning : (ℕ → ℕ) → Meaning → Meaning
 rising_meaning highs below = λ node. rising_clock (highs node) (below node)
 

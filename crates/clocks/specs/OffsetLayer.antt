@@ -25,6 +25,7 @@ abbrev pub offset_high : ℤ → ℕ → ℕ
 offset_high offset zero = 0
 offset_high offset (suc below) = floor_at_zero (pos (suc below) +ℤ offset)
 
+-- a clock that is so many milliseconds ahead of the clock below
 abbrev pub offset_clock : ℤ → Clock → Clock
 offset_clock offset below = record {
   high = offset_high offset below.high;
@@ -36,6 +37,7 @@ offset_clock offset below = record {
 abbrev pub zero_offset : Offset
 zero_offset = record { millis = pos 0; least = record { le = tt }; most = record { le = tt } }
 
+-- such a clock for each node
 abbrev pub offset_meaning : List Offset → Meaning → Meaning
 offset_meaning offsets below = λ node. offset_clock (slice_index_or offsets node zero_offset).millis (below node)
 
@@ -43,5 +45,6 @@ offset_meaning offsets below = λ node. offset_clock (slice_index_or offsets nod
 abbrev pub bank_below : {B : Type 0} → OffsetLayer B → B
 bank_below layer = layer.below
 
+-- the settings of the nodes
 abbrev pub offsets_of : {B : Type 0} → OffsetLayer B → List Offset
 offsets_of layer = layer.offsets

@@ -17,6 +17,7 @@ tick_answer tick high raw =
     (if nat_le raw max_count then (if is_reading millis then (if nat_lt millis high then Err 9 else Ok millis) else Err 8)
     else Err 8)
 
+-- a clock of these settings, with this high; it never falls back
 abbrev pub tick_clock : Tick → ℕ → Clock
 tick_clock tick high = record { high = high; backstep = 0; answer = tick_answer tick high }
 
@@ -24,6 +25,7 @@ tick_clock tick high = record { high = high; backstep = 0; answer = tick_answer 
 abbrev pub absent_tick : Tick
 absent_tick = record { base = 0; step = 1; low = lit≤ tt; positive = lit≤ tt; short = lit≤ tt }
 
+-- such a clock for each node
 abbrev pub tick_meaning : List Tick → (ℕ → ℕ) → Meaning
 tick_meaning ticks highs = λ node. tick_clock (slice_index_or ticks node absent_tick) (highs node)
 

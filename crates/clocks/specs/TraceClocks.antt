@@ -8,9 +8,11 @@ abbrev pub trace_answer : ℕ → ℕ → ℕ → Result ℕ ℕ
 trace_answer high backstep raw =
     (if is_reading raw then (if nat_lt (raw + backstep) high then Err 9 else Ok raw) else Err 8)
 
+-- a clock with this high that may fall back so far
 abbrev pub trace_clock : ℕ → ℕ → Clock
 trace_clock high backstep = record { high = high; backstep = backstep; answer = trace_answer high backstep }
 
+-- such a clock for each node
 abbrev pub trace_meaning : (ℕ → ℕ) → ℕ → Meaning
 trace_meaning highs backstep = λ node. trace_clock (highs node) backstep
 

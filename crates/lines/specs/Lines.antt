@@ -6,6 +6,7 @@ use Rattle.lines.specs.declared.line.Word.TheVariants as word
 use Rattle.lines.specs.declared.line.Piece.{Piece}
 use Rattle.lines.specs.declared.line.Piece.TheVariants as piece
 
+-- how a word is written
 abbrev pub word_text : Word → List ℕ
 word_text word.SetUp = codes "setup"
 word_text word.Note = codes "note"

@@ -51,6 +51,7 @@ module _ {K : Type 0} (form : KeyForm K) (order : K → K → Ordering) (backste
   outcomes s [] = []
   outcomes s (m ∷ ms) = outcome s m (call_of form m) ∷ outcomes (state_behind s (call_of form m)) ms
 
+-- points in the order of their numbers
 abbrev pub point_cmp : Point → Point → Ordering
 point_cmp a b = nat_cmp a.0 b.0
 
@@ -70,6 +71,7 @@ set_up_listing (Ok setup) m ms ending =
     record { outcomes = outcome_for m (Ok []) ∷ outcomes_for setup.keys setup ms; ending = ending }
 set_up_listing (Err refusal) m ms ending = record { outcomes = []; ending = refused refusal 0 }
 
+-- the listing of these records, of which the first has to set up
 abbrev pub listing_of : List Content → Ending → Listing
 listing_of [] ending = record { outcomes = []; ending = ending }
 listing_of (m ∷ ms) ending = set_up_listing (set_up_answer m) m ms ending

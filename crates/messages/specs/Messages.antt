@@ -13,6 +13,7 @@ pub record MessageNumbers : Type 0 where
   -- the stamp of its send
   pub stamp : Timestamp
 
+-- a message in numbers
 abbrev pub message_numbers : Message → MessageNumbers
 message_numbers m = record { number = m.number; to = m.to; stamp = stamp_of m.stamp }
 

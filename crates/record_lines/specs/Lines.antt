@@ -63,11 +63,12 @@ abbrev pub outcome_lines : ℕ → List Outcome → List ℕ
 outcome_lines n [] = []
 outcome_lines n (o ∷ os) = outcome_line n o ++ outcome_lines (n + 1) os
 
--- how many were accepted, and how many refused
+-- how many were accepted
 abbrev pub accepted_among : List Outcome → ℕ
 accepted_among [] = 0
 accepted_among (o ∷ os) = (if is_ok o then 1 else 0) + accepted_among os
 
+-- how many were refused
 abbrev pub refused_among : List Outcome → ℕ
 refused_among [] = 0
 refused_among (o ∷ os) = (if is_ok o then 0 else 1) + refused_among os
@@ -76,6 +77,7 @@ refused_among (o ∷ os) = (if is_ok o then 0 else 1) + refused_among os
 abbrev pub bad_line : ℕ → ℕ → List ℕ
 bad_line number offset = line_text (Word word.Bad ∷ Number number ∷ Word word.At ∷ Number offset ∷ [])
 
+-- the line of a trace that ends with a refusal; none for one that is complete
 abbrev pub ending_lines : Ending → List ℕ
 ending_lines complete = []
 ending_lines (refused number at) = bad_line number at

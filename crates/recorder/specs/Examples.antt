@@ -30,6 +30,7 @@ noted last clock = at_reading (own_answer last) clock
 abbrev clocks : (ℕ → ℕ) → Meaning
 clocks highs = trace_meaning highs 20
 
+-- a recorder of nothing
 abbrev fresh : State (ℕ → ℕ) ℕ
 fresh = fresh_state (record { nodes = 2; lead = 500 }) fresh_highs (record { versions = []; capacity = 1024 })
 
@@ -47,6 +48,7 @@ version node value = record { key = 7; stamp = code_of (at 1000 0); node = node;
 abbrev read_by : State (ℕ → ℕ) ℕ → ℕ → Result (Option (Version ℕ)) ℕ
 read_by s code = read_answer nat_cmp (is_settled s) s.contents 7 code
 
+-- the worked examples
 abbrev pub Examples : Type 0
 Examples =
     -- the last stamp is 1000.65535: a note at 1000 is refused with 10, at 1001 it gets 1001.0

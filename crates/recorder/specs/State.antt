@@ -52,5 +52,6 @@ pub record ClosedState (K : Type 0) : Type 0 where
   pub messages : List MessageNumbers
   pub contents : Contents K
 
+-- what is left of it at the close
 abbrev pub closed_state : {B K : Type 0} → State B K → ClosedState K
 closed_state s = record { messages = s.messages; contents = s.contents }

@@ -27,6 +27,7 @@ pub data AnswerNumbers (K : Type 0) : Type 0 where
   CutAnswer : Result ℕ ℕ → List (Version K) → AnswerNumbers K
   UnderWayAnswer : Result ℕ ℕ → List MessageNumbers → AnswerNumbers K
 
+-- an answer in numbers
 abbrev pub answer_numbers : {K : Type 0} → Answer K → AnswerNumbers K
 answer_numbers (answer.Event result) = EventAnswer (shown (result_map stamped_numbers result))
 answer_numbers (answer.Loss result) = LossAnswer (shown result)

@@ -10,6 +10,7 @@ pub record SettingNumbers : Type 0 where
   pub nodes : ℕ
   pub lead : ℕ
 
+-- the settings in numbers
 abbrev pub setting_numbers : Settings → SettingNumbers
 setting_numbers s = record { nodes = s.nodes; lead = lead_of s.lead }
 

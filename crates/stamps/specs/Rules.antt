@@ -30,6 +30,7 @@ pub record StampedNumbers : Type 0 where
   pub stamp : Timestamp
   pub drift : ℕ
 
+-- what an event answers, in numbers
 abbrev pub stamped_numbers : Stamped → StampedNumbers
 stamped_numbers stamped = record { stamp = stamp_of stamped.stamp; drift = stamped.drift }
 

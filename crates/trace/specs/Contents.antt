@@ -36,11 +36,12 @@ abbrev pub put_of : (node raw : ℕ) (key : KeyBytes) (value : ℤ) → Content
 put_of node raw (Point bytes) value = put_point node raw bytes.now value
 put_of node raw (Tag bytes) value = put_tag node raw bytes.now value
 
+-- a read of a key, which its bytes tell
 abbrev pub read_of : (at : ℕ) (key : KeyBytes) → Content
 read_of at (Point bytes) = read_point at bytes.now
 read_of at (Tag bytes) = read_tag at bytes.now
 
--- what a record of the code says
+-- what a record says
 abbrev pub content_of : Record → Content
 content_of (variant.SetUp nodes key_kind lead backstep) = set_up nodes key_kind lead backstep
 content_of (variant.Note node raw) = note node raw
@@ -50,6 +51,7 @@ content_of (variant.Loss message) = loss message
 content_of (variant.Put node raw key value) = put_of node raw key.bytes value
 content_of (variant.Read at key) = read_of at key.bytes
 
+-- the kind that a content is written as
 abbrev pub kind_of : Content → Kind
 kind_of (set_up nodes key_kind lead backstep) = SetUp
 kind_of (note node raw) = Note

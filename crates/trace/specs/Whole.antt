@@ -10,6 +10,7 @@ pub data Ending : Type 0 where
   complete : Ending
   refused : (number at : ℕ) → Ending
 
+-- all records of a trace, and how it ends
 pub record Whole : Type 0 where
   pub records : List Content
   pub ending : Ending

@@ -40,12 +40,15 @@ module _ {K : Type 0} (form : KeyForm K) where
   key_of (bytes_of.Point bytes) = form.point bytes.now
   key_of (bytes_of.Tag bytes) = form.tag bytes.now
 
+  -- a node's raw number
   abbrev pub sample_of : ℕ → ℕ → Sample
   sample_of node raw = record { node = node; raw = record { 0 = raw } }
 
+  -- the call of a put, or why its key is refused
   abbrev pub put_call : ℕ → ℕ → ℤ → Result K ℕ → Result (Call K) ℕ
   put_call node raw value key = result_map (λ k. call.Put (sample_of node raw) k value) key
 
+  -- the call of a read, or why its key is refused
   abbrev pub read_call : ℕ → Result K ℕ → Result (Call K) ℕ
   read_call at key = result_map (λ k. call.Ask (question.Read k at)) key
 

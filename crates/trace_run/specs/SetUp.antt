@@ -14,6 +14,7 @@ pub record SetUpNumbers : Type 0 where
   pub keys : Keys
   pub backstep : ℕ
 
+-- a set-up in numbers
 abbrev pub set_up_numbers : SetUp → SetUpNumbers
 set_up_numbers s = record { settings = setting_numbers s.settings; keys = s.keys; backstep = backstep_of s.backstep }
 

@@ -1,4 +1,5 @@
-// The written examples of docs/RULES.md: traces in hexadecimal, with the listings that they have there or by the words there.
+// The written examples of docs/RULES.md: traces in hexadecimal, with the listings that they have there or by the words there; and,
+// of the naive rules and encoder alone, worked stamps and the bytes of a put.
 
 use naive::stamp_rules::{Stamp, own_stamp, receipt_stamp};
 use naive_format::records::{Key, Record, Sample};

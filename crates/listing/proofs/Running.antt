@@ -9,7 +9,7 @@ use Rattle.replay.specs.declared.call.Call.{Call}
 use Rattle.trace.specs.Contents.{Content}
 use Rattle.trace_run.specs.Calls.{KeyForm, call_of, calls_of}
 use Rattle.record_lines.specs.Lines.{Outcome}
-use Rattle.trace_run.specs.Machine.{trace_answers}
+use Rattle.trace_replay.specs.Machine.{trace_answers}
 use Rattle.listing.specs.Outcomes.{answers_left, next_outcome, recorded}
 use Rattle.listing.specs.Text.{outcome, outcomes, state_behind}
 

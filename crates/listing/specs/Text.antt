@@ -18,7 +18,7 @@ use Rattle.trace.specs.Whole.{Ending, refused, whole_of}
 use Rattle.trace_run.specs.Calls.{KeyForm, call_of, points, tags}
 use Rattle.record_lines.specs.Lines.{Outcome, accepted_among, answered, end_line, ending_lines, outcome_for, outcome_lines}
 use Rattle.record_lines.specs.Lines.{refused_among}
-use Rattle.trace_run.specs.Machine.{highs_after}
+use Rattle.trace_replay.specs.Machine.{highs_after}
 use Rattle.trace_run.specs.SetUp.{SetUpNumbers, set_up_answer}
 use Rattle.trace_run.specs.declared.setup.Keys.{Keys}
 use Rattle.trace_run.specs.declared.setup.Keys.TheVariants.{Points, Tags}

@@ -20,7 +20,7 @@ use std::alloc::{AllocError, Global};
 use store::listable::Listable;
 use store::version::Version;
 use trace::records::Record;
-use trace_run::answers::answers_for;
+use trace_replay::answers::answers_for;
 use trace_run::calls::TraceKey;
 use trace_run::setup::{Keys, SetUp};
 

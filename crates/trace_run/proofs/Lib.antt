@@ -1,2 +1,1 @@
-mod Machine
 mod Progress

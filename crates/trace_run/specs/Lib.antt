@@ -1,4 +1,3 @@
 pub mod Calls
-pub mod Machine
 pub mod Reading
 pub mod SetUp

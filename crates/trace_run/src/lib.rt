@@ -1,7 +1,6 @@
-// The run that a trace makes of a recorder: its records, its set-up, its calls, and their answers.
+// The run that a trace makes of a recorder: its records, its set-up and its calls.
 #![tactic(auto)]
 
-pub mod answers;
 pub mod calls;
 pub mod reading;
 pub mod setup;

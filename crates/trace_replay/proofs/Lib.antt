@@ -1,0 +1,3 @@
+mod Machine
+mod Paging
+mod Room

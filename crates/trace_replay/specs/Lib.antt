@@ -1,0 +1,4 @@
+pub mod Machine
+pub mod Orders
+pub mod Page
+pub mod Traced

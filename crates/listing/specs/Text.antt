@@ -1,59 +1,40 @@
 -- The text that the program prints.
 use Rattle.std.specs.Prelude.{ℕ, if◌then◌else◌, List, [], ◌∷◌, ◌++◌, length, nat_le, Ok, Err, Result}
-use Rattle.std.specs.Ordering.{nat_cmp}
 use Rattle.std.specs.declared.cmp.Ordering.{Ordering}
-use Rattle.clocks.specs.Bank.{Meaning}
-use Rattle.clocks.specs.Highs.{fresh_highs}
-use Rattle.clocks.specs.TraceClocks.{trace_meaning}
 use Rattle.keys.specs.Tag.{tag_cmp}
-use Rattle.keys.specs.declared.point.Point.{Point}
 use Rattle.lines.specs.Lines.{line_text}
 use Rattle.lines.specs.declared.line.Piece.TheVariants.{Word}
 use Rattle.lines.specs.declared.line.Word.TheVariants.{TooLong}
-use Rattle.recorder.specs.State.{State, fresh_state}
-use Rattle.replay.specs.Calls.{after_call, call_answer}
+use Rattle.recorder.specs.State.{State}
+use Rattle.replay.specs.Calls.{call_answer}
 use Rattle.replay.specs.declared.call.Call.{Call}
 use Rattle.trace.specs.Contents.{Content}
 use Rattle.trace.specs.Whole.{Ending, refused, whole_of}
 use Rattle.trace_run.specs.Calls.{KeyForm, call_of, points, tags}
 use Rattle.record_lines.specs.Lines.{Outcome, accepted_among, answered, end_line, ending_lines, outcome_for, outcome_lines}
 use Rattle.record_lines.specs.Lines.{refused_among}
-use Rattle.trace_replay.specs.Machine.{highs_after}
+use Rattle.trace_replay.specs.Machine.{behind_call, clocks_of}
+use Rattle.trace_replay.specs.Orders.{point_cmp}
+use Rattle.trace_replay.specs.Traced.{first_state}
 use Rattle.trace_run.specs.SetUp.{SetUpNumbers, set_up_answer}
 use Rattle.trace_run.specs.declared.setup.Keys.{Keys}
 use Rattle.trace_run.specs.declared.setup.Keys.TheVariants.{Points, Tags}
 
--- for so many versions the program has places
-abbrev pub places : ℕ
-places = 1024
-
--- the recorder before the first event
-abbrev pub first_state : {K : Type 0} → SetUpNumbers → State (ℕ → ℕ) K
-first_state setup = fresh_state setup.settings fresh_highs (record { versions = []; capacity = places })
-
 module _ {K : Type 0} (form : KeyForm K) (order : K → K → Ordering) (backstep : ℕ) where
-  -- the clocks, told by the highest reading of each node
-  abbrev clocks : (ℕ → ℕ) → Meaning
-  clocks highs = trace_meaning highs backstep
-
   -- what comes of a record with this call, or that was refused before the recorder saw it
   abbrev pub outcome : State (ℕ → ℕ) K → Content → Result (Call K) ℕ → Outcome
-  outcome s m (Ok c) = answered m (call_answer order clocks s c)
+  outcome s m (Ok c) = answered m (call_answer order (clocks_of backstep) s c)
   outcome s m (Err refusal) = Err refusal
 
   -- the recorder behind it
   abbrev pub state_behind : State (ℕ → ℕ) K → Result (Call K) ℕ → State (ℕ → ℕ) K
-  state_behind s (Ok c) = after_call order clocks s c (highs_after order backstep s c)
+  state_behind s (Ok c) = behind_call order backstep s c
   state_behind s (Err refusal) = s
 
   -- what comes of these records, one after another
   abbrev pub outcomes : State (ℕ → ℕ) K → List Content → List Outcome
   outcomes s [] = []
   outcomes s (m ∷ ms) = outcome s m (call_of form m) ∷ outcomes (state_behind s (call_of form m)) ms
-
--- points in the order of their numbers
-abbrev pub point_cmp : Point → Point → Ordering
-point_cmp a b = nat_cmp a.0 b.0
 
 -- of the records behind a set-up
 abbrev pub outcomes_for : Keys → SetUpNumbers → List Content → List Outcome

@@ -1,13 +1,11 @@
 use Rattle.std.proofs.Common.{length, map, ap, ◌∙◌, sym}
 use Rattle.std.proofs.lemmas.List.{length-map}
-use Rattle.clocks.specs.Highs.{fresh_highs}
-use Rattle.clocks.specs.Settings.{backstep_of}
-use Rattle.recorder.specs.State.{fresh_state}
 use Rattle.replay.specs.Calls.{answer_numbers}
-use Rattle.stamper.specs.Settings.{setting_numbers}
 use Rattle.trace.specs.Contents.{content_of}
+use Rattle.trace_replay.specs.Traced.{first_state}
+use Rattle.trace_run.specs.SetUp.{set_up_numbers}
 use Rattle.listing.proofs.Running.{as_many, recorded_run}
-use Rattle.listing.proofs.run.add_run_in.Goals as goal
+use Rattle.listing.proofs.run.add_run_of.Goals as goal
 
 pub add_outcomes-requires : goal.add_outcomes-requires
 add_outcomes-requires g c =
@@ -17,7 +15,7 @@ add_outcomes-requires g c =
 pub returns : goal.returns
 returns g c =
     let answers = ap (map answer_numbers) c.deref.ensures.value ∙ c.in_ok-answers.ensures in
-    let state = fresh_state (setting_numbers c.args.setup.settings) fresh_highs c.args.store in
-    let recorded = recorded_run g.K.TraceKey.form g.K.Ord.cmp (backstep_of c.args.setup.backstep) state
+    let setup = set_up_numbers c.args.setup in
+    let recorded = recorded_run g.K.TraceKey.form g.K.Ord.cmp setup.backstep (first_state setup)
     (map content_of c.args.records.now) in
     rw (← recorded, ← answers) c.add_outcomes.ensures

@@ -1,0 +1,3 @@
+mod Found
+mod Latest
+mod Listed

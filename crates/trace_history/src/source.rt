@@ -1,0 +1,19 @@
+// Where a version comes from.
+ghost use Rattle.std.specs.Prelude.{◌≡◌, map};
+ghost use Rattle.std.specs.List.{find};
+ghost use Rattle.std.specs.Option.{option_copied, option_map};
+ghost use Rattle.trace_history.specs.Shown.{event_numbers};
+ghost use Rattle.trace_history.specs.Source.{is_source};
+
+use crate::events::Event;
+use store::version::Version;
+
+// The event that put a version: the first with its node and stamp.
+pub fn source_of<'a, K: Copy>(events: &'a [Event<K>], version: &Version<K>) -> Option<&'a Event<K>>
+    ensures { option_map event_numbers (option_copied result)
+        ≡ find (is_source version.now) (map event_numbers events.now) }
+{
+    events
+        .iter()
+        .find(|event| event.node == version.node && event.stamp.code() == version.stamp)
+}

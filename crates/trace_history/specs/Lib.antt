@@ -1,3 +1,4 @@
 pub mod Events
 pub mod Shown
 pub mod Source
+pub mod Trace

@@ -1,8 +1,9 @@
-// What a node reported last.
+// What nodes reported last.
 ghost use Rattle.std.specs.Prelude.{◌≡◌, map};
 ghost use Rattle.history.specs.History.{last_stamp as last_stamp_of};
 ghost use Rattle.stamps.specs.Stamp.{stamp_of};
 ghost use Rattle.trace_history.specs.Shown.{events_in};
+ghost use Rattle.trace_history.specs.Trace.{newest_final as newest_final_of};
 
 use crate::events::Event;
 use stamps::stamp::Stamp;
@@ -18,4 +19,18 @@ pub fn last_stamp<K: Copy>(events: &[Event<K>], node: u8) -> Stamp
         }
     }
     last
+}
+
+// The newest stamp code at which a page is final, of a recorder of so many nodes.
+pub fn newest_final<K: Copy>(closes: bool, events: &[Event<K>], nodes: u8) -> u64
+    ensures { result ≡ newest_final_of closes (events_in events.now) nodes }
+{
+    let mut lowest = u64::MAX;
+    if closes {
+        return lowest;
+    }
+    for node in 0..nodes {
+        lowest = lowest.min(last_stamp(events, node).code());
+    }
+    lowest
 }

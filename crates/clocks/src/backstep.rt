@@ -29,4 +29,10 @@ impl Backstep {
         }
         Ok(Backstep { millis })
     }
+
+    pub fn millis(self) -> u32
+        ensures { result ≡ backstep_of self }
+    {
+        self.millis
+    }
 }

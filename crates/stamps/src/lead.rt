@@ -33,6 +33,12 @@ impl Lead {
         Ok(Lead { millis })
     }
 
+    pub fn millis(self) -> u32
+        ensures { result ≡ lead_of self }
+    {
+        self.millis
+    }
+
     // Whether a message with the stamp `sent` is too far ahead of the reading to be received.
     pub fn is_exceeded(self, sent: Stamp, reading: Reading) -> bool
         ensures { result ≡ is_too_far_ahead (lead_of self) (stamp_of sent).time (millis_of reading) }

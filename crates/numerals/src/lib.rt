@@ -4,7 +4,7 @@
 ghost use Rattle.std.specs.Prelude.{◌≡◌, ◌<◌, ◌≤◌, IfSome, length, position};
 ghost use Rattle.std.specs.Char.{is_ascii_digit};
 ghost use Rattle.std.specs.List.{list_all};
-ghost use Rattle.numerals.specs.Numerals.{is_point, number_of, signed_of, stamp_code_of};
+ghost use Rattle.numerals.specs.Numerals.{is_numeral, is_point, number_of, signed_of, stamp_code_of};
 
 use std::str;
 
@@ -14,11 +14,18 @@ const COUNTERS: u64 = 65_536;
 // The highest time of a stamp: 48 bits.
 const MOST_TIME: u64 = 281_474_976_710_655;
 
-// Whether the word has digits alone.
+// Whether the word has no byte but digits.
 fn is_digits(word: &[u8]) -> bool
     ensures { result ≡ list_all is_ascii_digit word.now }
 {
     word.iter().all(|byte| byte.is_ascii_digit())
+}
+
+// Whether the word is a number: one digit or more, and nothing else.
+pub fn is_number(word: &[u8]) -> bool
+    ensures { result ≡ is_numeral word.now }
+{
+    !word.is_empty() && is_digits(word)
 }
 
 // The place of the first point.
@@ -33,7 +40,7 @@ fn point_of(word: &[u8]) -> Option<usize>
 fn any_number(word: &[u8]) -> Option<u64>
     ensures { result ≡ number_of 18446744073709551615 word.now }
 {
-    if !is_digits(word) {
+    if !is_number(word) {
         return None;
     }
     str::from_utf8(word).ok()?.parse::<u64>().ok()

@@ -1,4 +1,2 @@
-pub mod Keys
-pub mod Records
-pub mod Verbs
-pub mod Written
+pub mod Lines
+pub mod Texts

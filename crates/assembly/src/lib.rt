@@ -1,6 +1,5 @@
-// Traces by hand: lines of words to the bytes of a trace.
+// Traces by hand: a text to the bytes of the trace that it spells.
 #![tactic(auto)]
 
-mod key;
-mod record;
-mod verb;
+pub mod line;
+pub mod text;

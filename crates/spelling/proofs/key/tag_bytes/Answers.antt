@@ -1,6 +1,6 @@
 use Rattle.std.proofs.Common.{◌≡◌, ◌∙◌, sym}
-use Rattle.assembly.proofs.Padding.{over_zeros}
-use Rattle.assembly.proofs.key.tag_bytes.Goals as goal
+use Rattle.spelling.proofs.Padding.{over_zeros}
+use Rattle.spelling.proofs.key.tag_bytes.Goals as goal
 
 pub returns : goal.returns
 returns c =

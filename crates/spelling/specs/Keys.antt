@@ -4,8 +4,8 @@ use Rattle.std.specs.List.{list_all}
 use Rattle.std.specs.Option.{option_map}
 use Rattle.keys.specs.Name.{is_name_byte}
 use Rattle.trace.specs.Numbers.{bytes_of}
-use Rattle.assembly.specs.declared.key.WrittenKey.{WrittenKey}
-use Rattle.assembly.specs.declared.key.WrittenKey.TheVariants.{Point, Tag}
+use Rattle.spelling.specs.declared.key.WrittenKey.{WrittenKey}
+use Rattle.spelling.specs.declared.key.WrittenKey.TheVariants.{Point, Tag}
 use Rattle.numerals.specs.Numerals.{is_numeral, number_of}
 
 -- a double quote (34) stands at its first place and another at its last

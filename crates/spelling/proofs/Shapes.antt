@@ -1,9 +1,9 @@
 -- The words behind the first, by how many they are.
 use Rattle.std.proofs.Common.{◌≡◌, ◌≢◌, ℕ, List, [], ◌∷◌, length, get_or, map, None, Some, Option, Bor, ◌∙◌, ap, sym, refl, option_and_then, arith}
-use Rattle.assembly.specs.declared.verb.Verb.{Verb}
-use Rattle.assembly.specs.declared.verb.Verb.TheVariants.{SetUp, Note, Send, Receipt, Loss, Put, Read}
-use Rattle.assembly.specs.Records.{loss_of, note_of, put_of, read_of, receipt_of, record_for, record_of, send_of, set_up_of}
-use Rattle.assembly.specs.Verbs.{verb_of}
+use Rattle.spelling.specs.declared.verb.Verb.{Verb}
+use Rattle.spelling.specs.declared.verb.Verb.TheVariants.{SetUp, Note, Send, Receipt, Loss, Put, Read}
+use Rattle.spelling.specs.Records.{loss_of, note_of, put_of, read_of, receipt_of, record_for, record_of, send_of, set_up_of}
+use Rattle.spelling.specs.Verbs.{verb_of}
 use Rattle.std.specs.List.{IsFirstAndRest}
 
 -- words that a slice lends

@@ -4,12 +4,12 @@ use Rattle.std.specs.Option.{option_map, option_or}
 use Rattle.std.specs.Str.{bytes_eq}
 use Rattle.trace.specs.Contents.{Content, set_up, note, send, receipt, loss, put_point, put_tag, read_point, read_tag}
 use Rattle.numerals.specs.Numerals.{number_of, signed_of, stamp_code_of}
-use Rattle.assembly.specs.declared.key.WrittenKey.{WrittenKey}
-use Rattle.assembly.specs.declared.key.WrittenKey.TheVariants.{Point, Tag}
-use Rattle.assembly.specs.declared.verb.Verb.{Verb}
-use Rattle.assembly.specs.declared.verb.Verb.TheVariants.{SetUp, Note, Send, Receipt, Loss, Put, Read}
-use Rattle.assembly.specs.Keys.{key_of}
-use Rattle.assembly.specs.Verbs.{verb_of}
+use Rattle.spelling.specs.declared.key.WrittenKey.{WrittenKey}
+use Rattle.spelling.specs.declared.key.WrittenKey.TheVariants.{Point, Tag}
+use Rattle.spelling.specs.declared.verb.Verb.{Verb}
+use Rattle.spelling.specs.declared.verb.Verb.TheVariants.{SetUp, Note, Send, Receipt, Loss, Put, Read}
+use Rattle.spelling.specs.Keys.{key_of}
+use Rattle.spelling.specs.Verbs.{verb_of}
 
 infixl 5 ◌⊛◌
 

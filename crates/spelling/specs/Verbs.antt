@@ -1,8 +1,8 @@
 -- The first words of lines.
 use Rattle.std.specs.Prelude.{ℕ, List, [], ◌∷◌, Option, codes, find}
 use Rattle.std.specs.Str.{bytes_eq}
-use Rattle.assembly.specs.declared.verb.Verb.{Verb}
-use Rattle.assembly.specs.declared.verb.Verb.TheVariants.{SetUp, Note, Send, Receipt, Loss, Put, Read}
+use Rattle.spelling.specs.declared.verb.Verb.{Verb}
+use Rattle.spelling.specs.declared.verb.Verb.TheVariants.{SetUp, Note, Send, Receipt, Loss, Put, Read}
 
 -- how a first word is written
 abbrev pub verb_text : Verb → List ℕ

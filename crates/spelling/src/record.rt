@@ -3,8 +3,8 @@ ghost use Rattle.std.specs.Prelude.{◌≡◌, map};
 ghost use Rattle.std.specs.Option.{option_map};
 ghost use Rattle.numerals.specs.Numerals.{number_of};
 ghost use Rattle.trace.specs.Contents.{content_of};
-ghost use Rattle.assembly.specs.Written.{IsLent, written_content};
-ghost use Rattle.assembly.specs.Records.{key_kind_of, loss_of, note_of, put_of, read_of, receipt_of, record_for, record_of, send_of, set_up_of, stamp_of};
+ghost use Rattle.spelling.specs.Written.{IsLent, written_content};
+ghost use Rattle.spelling.specs.Records.{key_kind_of, loss_of, note_of, put_of, read_of, receipt_of, record_for, record_of, send_of, set_up_of, stamp_of};
 
 use crate::key::WrittenKey;
 use crate::verb::Verb;
@@ -13,7 +13,7 @@ use trace::records::{Key, KeyBytes, Record};
 
 // The record that a line spells. It has the bytes of its key, which a `Record` borrows.
 #[derive(Clone, Copy, PartialEq, Eq, Debug)]
-pub(crate) enum Written {
+pub enum Written {
     // Any but a put or a read.
     Keyless(Record<'static>),
     Put {
@@ -40,7 +40,7 @@ fn lent(key: &WrittenKey) -> Key<'_>
 }
 
 impl Written {
-    pub(crate) fn record(&self) -> Record<'_>
+    pub fn record(&self) -> Record<'_>
         ensures { content_of result ≡ written_content self.now }
     {
         match self {
@@ -195,7 +195,7 @@ fn record_by(verb: Verb, words: &[&[u8]]) -> Option<Written>
 
 // The record of these words.
 #[tactic(auto, unfolding(crate::specs::Records::record_of))]
-pub(crate) fn record(words: &[&[u8]]) -> Option<Written>
+pub fn record(words: &[&[u8]]) -> Option<Written>
     ensures { option_map written_content result ≡ record_of (map (λ word. word.now) words.now) }
 {
     let (first, rest) = words.split_first()?;

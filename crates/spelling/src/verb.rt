@@ -1,6 +1,6 @@
 // The words that say what kind of record a line is.
 ghost use Rattle.std.specs.Prelude.{◌≡◌};
-ghost use Rattle.assembly.specs.Verbs.{verb_of, verb_text};
+ghost use Rattle.spelling.specs.Verbs.{verb_of, verb_text};
 
 // The first word of a line.
 #[derive(Clone, Copy, PartialEq, Eq, Debug)]

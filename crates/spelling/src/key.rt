@@ -2,7 +2,7 @@
 ghost use Rattle.std.specs.Prelude.{◌≡◌, length};
 ghost use Rattle.std.specs.List.{list_all};
 ghost use Rattle.keys.specs.Name.{is_name_byte};
-ghost use Rattle.assembly.specs.Keys.{is_name, padded, tag_of, unquoted};
+ghost use Rattle.spelling.specs.Keys.{is_name, padded, tag_of, unquoted};
 
 use numerals::{is_number, number};
 
@@ -51,14 +51,14 @@ fn tag_bytes(name: &[u8]) -> Option<[u8; 16]>
 
 // The bytes of a key.
 #[derive(Clone, Copy, PartialEq, Eq, Debug)]
-pub(crate) enum WrittenKey {
+pub enum WrittenKey {
     Point([u8; 4]),
     Tag([u8; 16]),
 }
 
 impl WrittenKey {
     ghost use Rattle.trace.specs.Contents.{key_bytes};
-    ghost use Rattle.assembly.specs.Keys.{key_of};
+    ghost use Rattle.spelling.specs.Keys.{key_of};
 
     // The key that the word is: a point if it is a number, and else a tag.
     #[tactic(auto, unfolding(crate::specs::Keys::key_of))]

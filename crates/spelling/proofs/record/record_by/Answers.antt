@@ -1,17 +1,17 @@
 use Rattle.std.proofs.Common.{◌≡◌, ◌≢◌, ◌∙◌, ap, sym, length, None, arith}
 use borrow.Author.Tests.{tests}
-use Rattle.assembly.specs.declared.verb.Verb.{Verb}
-use Rattle.assembly.specs.declared.verb.Verb.TheVariants.{SetUp, Note, Send, Receipt, Loss, Put, Read}
-use Rattle.assembly.specs.Records.{record_for}
-use Rattle.assembly.proofs.Shapes.{Words, arity, texts, loss_at, none_at, note_at, put_at, read_at, receipt_at, send_at, set_up_at}
-use Rattle.assembly.proofs.record.record_by.Goals as goal
-use Rattle.assembly.proofs.record.record_by.Goals.{in_default-via-in-SetUp+then-words-lt4, in_default-via-in-SetUp+else-words-lt4+else-this-lt5}
-use Rattle.assembly.proofs.record.record_by.Goals.{in_default-via-in-Note+then-this-lt2, in_default-via-in-Note+else-this-lt2+else-this-lt3}
-use Rattle.assembly.proofs.record.record_by.Goals.{in_default-via-in-Send+then-this-lt4, in_default-via-in-Send+else-this-lt4+else-this-lt5-2}
-use Rattle.assembly.proofs.record.record_by.Goals.{in_default-via-in-Receipt+then-this-lt3-2, in_default-via-in-Receipt+else-this-lt3-2+else-this-lt4-2}
-use Rattle.assembly.proofs.record.record_by.Goals.{in_default-via-in-Loss+then-this-lt1, in_default-via-in-Loss+else-this-lt1+else-this-lt2-2}
-use Rattle.assembly.proofs.record.record_by.Goals.{in_default-via-in-Put+then-this-lt4-3, in_default-via-in-Put+else-this-lt4-3+else-this-lt5-3}
-use Rattle.assembly.proofs.record.record_by.Goals.{in_default-via-in-Read+then-this-lt2-3, in_default-via-in-Read+else-this-lt2-3+else-this-lt3-3}
+use Rattle.spelling.specs.declared.verb.Verb.{Verb}
+use Rattle.spelling.specs.declared.verb.Verb.TheVariants.{SetUp, Note, Send, Receipt, Loss, Put, Read}
+use Rattle.spelling.specs.Records.{record_for}
+use Rattle.spelling.proofs.Shapes.{Words, arity, texts, loss_at, none_at, note_at, put_at, read_at, receipt_at, send_at, set_up_at}
+use Rattle.spelling.proofs.record.record_by.Goals as goal
+use Rattle.spelling.proofs.record.record_by.Goals.{in_default-via-in-SetUp+then-words-lt4, in_default-via-in-SetUp+else-words-lt4+else-this-lt5}
+use Rattle.spelling.proofs.record.record_by.Goals.{in_default-via-in-Note+then-this-lt2, in_default-via-in-Note+else-this-lt2+else-this-lt3}
+use Rattle.spelling.proofs.record.record_by.Goals.{in_default-via-in-Send+then-this-lt4, in_default-via-in-Send+else-this-lt4+else-this-lt5-2}
+use Rattle.spelling.proofs.record.record_by.Goals.{in_default-via-in-Receipt+then-this-lt3-2, in_default-via-in-Receipt+else-this-lt3-2+else-this-lt4-2}
+use Rattle.spelling.proofs.record.record_by.Goals.{in_default-via-in-Loss+then-this-lt1, in_default-via-in-Loss+else-this-lt1+else-this-lt2-2}
+use Rattle.spelling.proofs.record.record_by.Goals.{in_default-via-in-Put+then-this-lt4-3, in_default-via-in-Put+else-this-lt4-3+else-this-lt5-3}
+use Rattle.spelling.proofs.record.record_by.Goals.{in_default-via-in-Read+then-this-lt2-3, in_default-via-in-Read+else-this-lt2-3+else-this-lt3-3}
 
 as_read : (verb v : Verb) (ws : Words) → verb ≡ v → record_for v (texts ws) ≡ record_for verb (texts ws)
 as_read verb v ws is = ap (λ v. record_for v (texts ws)) (sym is)

@@ -1,8 +1,8 @@
 use Rattle.std.proofs.Common.{◌≡◌, ◌∙◌, ap, sym}
 use Rattle.std.specs.Option.{option_map}
-use Rattle.assembly.specs.Written.{written_content}
-use Rattle.assembly.proofs.Shapes.{by_verb, no_verb, no_words}
-use Rattle.assembly.proofs.record.record.Goals as goal
+use Rattle.spelling.specs.Written.{written_content}
+use Rattle.spelling.proofs.Shapes.{by_verb, no_verb, no_words}
+use Rattle.spelling.proofs.record.record.Goals as goal
 
 pub returns-in_err-first : goal.returns-in_err-first
 returns-in_err-first c =

@@ -3,10 +3,10 @@ use Rattle.trace.specs.Contents.{Content, content_of, put_point, put_tag, read_p
 use Rattle.std.specs.Prelude.{◌≡◌}
 use Rattle.trace.specs.declared.records.KeyBytes.{KeyBytes}
 use Rattle.trace.specs.declared.records.KeyBytes.TheVariants as lent
-use Rattle.assembly.specs.declared.key.WrittenKey.{WrittenKey}
-use Rattle.assembly.specs.declared.key.WrittenKey.TheVariants.{Point, Tag}
-use Rattle.assembly.specs.declared.record.Written.{Written}
-use Rattle.assembly.specs.declared.record.Written.TheVariants.{Keyless, Put, Read}
+use Rattle.spelling.specs.declared.key.WrittenKey.{WrittenKey}
+use Rattle.spelling.specs.declared.key.WrittenKey.TheVariants.{Point, Tag}
+use Rattle.spelling.specs.declared.record.Written.{Written}
+use Rattle.spelling.specs.declared.record.Written.TheVariants.{Keyless, Put, Read}
 
 -- the bytes of a key are those that were written
 abbrev pub IsLent : WrittenKey → KeyBytes → Type 0

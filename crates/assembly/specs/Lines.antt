@@ -6,8 +6,8 @@ use Rattle.std.specs.Option.{option_map}
 use Rattle.trace.specs.Contents.{Content}
 use Rattle.trace.specs.Ranges.{IsInRange}
 use Rattle.trace.specs.Whole.{trace_of}
-use Rattle.assembly.specs.declared.text.Line.{Line}
-use Rattle.assembly.specs.declared.text.Line.TheVariants.{Nothing, Record, Unknown}
+use Rattle.assembly.specs.declared.line.Line.{Line}
+use Rattle.assembly.specs.declared.line.Line.TheVariants.{Nothing, Record, Unknown}
 use Rattle.spelling.specs.Written.{written_content}
 use Rattle.spelling.specs.Records.{record_of}
 
@@ -38,10 +38,10 @@ unfoldable pub records_of : List ℕ → Option (List Content)
 records_of line = spelled_by (words_of line)
 
 -- what a line says, as the records that it spells
-abbrev pub content_of_line : Line → Option (List Content)
-content_of_line Nothing = Some []
-content_of_line (Record written) = Some (written_content written ∷ [])
-content_of_line Unknown = None
+abbrev pub contents_of_line : Line → Option (List Content)
+contents_of_line Nothing = Some []
+contents_of_line (Record written) = Some (written_content written ∷ [])
+contents_of_line Unknown = None
 
 -- a trace gained the bytes of these records; it gained nothing where a line was not understood
 abbrev pub AddsLine : Option (List Content) → List ℕ → List ℕ → Bool → Type 0

@@ -1,5 +1,5 @@
 // Traces by hand: a text to the bytes of the trace that it spells.
 #![tactic(auto)]
 
-pub mod line;
+mod line;
 pub mod text;

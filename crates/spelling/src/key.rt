@@ -50,7 +50,7 @@ fn tag_bytes(name: &[u8]) -> Option<[u8; 16]>
 }
 
 // The bytes of a key.
-#[derive(Clone, Copy, PartialEq, Eq, Debug)]
+#[derive(Clone, Copy, Debug)]
 pub enum WrittenKey {
     Point([u8; 4]),
     Tag([u8; 16]),

@@ -12,7 +12,7 @@ use numerals::{number, signed, stamp_code};
 use trace::records::{Key, KeyBytes, Record};
 
 // The record that a line spells. It has the bytes of its key, which a `Record` borrows.
-#[derive(Clone, Copy, PartialEq, Eq, Debug)]
+#[derive(Clone, Copy, Debug)]
 pub enum Written {
     // Any but a put or a read.
     Keyless(Record<'static>),

@@ -2,4 +2,5 @@
 #![tactic(auto)]
 
 mod line;
+pub mod program;
 pub mod text;

@@ -1,5 +1,5 @@
 -- What one line adds to a trace.
-use Rattle.std.proofs.Common.{◌≡◌, ℕ, ◌+◌, ◌≤◌, ◌∙◌, ◌++◌, Bool, true, false, All, List, [], ◌∷◌, length, take, drop, map, is_ok, OnOk, Some, None, Ok, Err, Option, Result, Bor}
+use Rattle.std.proofs.Common.{◌≡◌, ℕ, ◌+◌, ◌∙◌, ◌++◌, Bool, true, false, List, [], ◌∷◌, length, take, drop, map, is_ok, OnOk, Some, None, Ok, Err, Option, Result, Bor}
 use Rattle.std.proofs.Common.{ap, sym, subst, refl, append-nil, arith}
 use Rattle.std.specs.Prelude.{if◌then◌else◌}
 use Rattle.std.proofs.Math.Seq.{take-append_seam}
@@ -8,7 +8,6 @@ use Rattle.refusals.specs.Refusals.{shown}
 use Rattle.refusals.specs.declared.refusal.Refusal.{Refusal}
 use Rattle.trace.specs.Contents.{Content, encoding_of, size_of}
 use Rattle.trace.specs.Ranges.{IsInRange}
-use Rattle.trace.specs.Whole.{trace_of}
 use Rattle.trace.specs.Writing.{buffer_after_write, is_within, overlay, write_answer}
 use Rattle.trace.proofs.Trips.{length_body}
 use Rattle.assembly.specs.declared.line.Line.{Line}

@@ -1,12 +1,12 @@
 -- A text on the way to its trace.
-use Rattle.std.proofs.Common.{◌≡◌, ℕ, ◌+◌, ◌<◌, ◌≤◌, ◌∙◌, ◌++◌, zero, suc, Bool, true, false, All, List, [], ◌∷◌, length, Some, None, Ok, Err, Option, Result, Fits, w8, get_or}
+use Rattle.std.proofs.Common.{◌≡◌, ℕ, ◌+◌, ◌<◌, ◌≤◌, ◌∙◌, ◌++◌, zero, suc, Bool, true, false, All, List, [], ◌∷◌, length, Some, None, Ok, Err, Option, Result, get_or}
 use Rattle.std.proofs.Common.{ap, sym, subst, refl, append-nil, append_assoc, lit<, arith}
 use Rattle.std.specs.List.{after_first, before_first, slice_split}
 use Rattle.std.proofs.lemmas.List.Elements.{All-append, All-nil}
 use Rattle.refusals.specs.Refusals.{result_map}
 use Rattle.trace.specs.Contents.{Content, encoding_of}
 use Rattle.trace.specs.Ranges.{IsInRange}
-use Rattle.trace.specs.Whole.{Whole, complete, trace_of, whole_of}
+use Rattle.trace.specs.Whole.{Whole, complete, trace_of}
 use Rattle.trace.proofs.OneWay.{one_way}
 use Rattle.assembly.specs.Lines.{is_line_feed, records_of, AddsLine}
 use Rattle.assembly.specs.Texts.{assembly_of, contents_of, records_from, records_with, ReadsBack}

@@ -1,7 +1,7 @@
 -- Zero bytes behind a name.
-use Rattle.std.proofs.Common.{◌≡◌, ℕ, ◌++◌, true, List, length, drop, replicate, Some, ap, ◌∙◌, refl}
+use Rattle.std.proofs.Common.{◌≡◌, ℕ, ◌++◌, true, List, length, drop, replicate, Some, ap, ◌∙◌}
 use Rattle.std.proofs.lemmas.List.{drop-replicate}
-use Rattle.spelling.specs.Keys.{is_name, padded, tag_of}
+use Rattle.spelling.specs.Keys.{is_name, tag_of}
 
 -- a name that was copied over the first of sixteen zero bytes
 pub over_zeros : (name copied : List ℕ) → is_name name ≡ true → copied ≡ name

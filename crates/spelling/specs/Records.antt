@@ -1,6 +1,6 @@
 -- Records as a person writes them.
 use Rattle.std.specs.Prelude.{ℕ, if◌then◌else◌, List, [], ◌∷◌, Option, Some, None, option_and_then, codes, ℤ}
-use Rattle.std.specs.Option.{option_map, option_or}
+use Rattle.std.specs.Option.{option_or}
 use Rattle.std.specs.Str.{bytes_eq}
 use Rattle.trace.specs.Contents.{Content, set_up, note, send, receipt, loss, put_point, put_tag, read_point, read_tag}
 use Rattle.numerals.specs.Numerals.{number_of, signed_of, stamp_code_of}
@@ -20,14 +20,14 @@ Some part ⊛ None = None
 Some part ⊛ Some field = Some (part field)
 
 -- a number of one byte, of four and of eight
-abbrev pub byte_of : List ℕ → Option ℕ
-byte_of word = number_of 255 word
+abbrev pub u8_of : List ℕ → Option ℕ
+u8_of word = number_of 255 word
 
-abbrev pub half_of : List ℕ → Option ℕ
-half_of word = number_of 4294967295 word
+abbrev pub u32_of : List ℕ → Option ℕ
+u32_of word = number_of 4294967295 word
 
-abbrev pub whole_of : List ℕ → Option ℕ
-whole_of word = number_of 18446744073709551615 word
+abbrev pub u64_of : List ℕ → Option ℕ
+u64_of word = number_of 18446744073709551615 word
 
 -- the byte of a kind of keys
 unfoldable pub key_kind_of : List ℕ → Option ℕ
@@ -37,7 +37,7 @@ key_kind_of word =
 
 -- a stamp's code: a number, or TIME.COUNTER
 unfoldable pub stamp_of : List ℕ → Option ℕ
-stamp_of word = option_or (whole_of word) (stamp_code_of word)
+stamp_of word = option_or (u64_of word) (stamp_code_of word)
 
 -- a put, and a read, by a key of either kind
 abbrev pub put_by : ℕ → ℕ → WrittenKey → ℤ → Content
@@ -51,25 +51,25 @@ read_by at (Tag bytes) = read_tag at bytes
 -- the records of the words behind the first, word by word
 abbrev pub set_up_of : (nodes keys lead backstep : List ℕ) → Option Content
 set_up_of nodes keys lead backstep =
-    Some (λ n k l b. set_up n k l b) ⊛ byte_of nodes ⊛ key_kind_of keys ⊛ half_of lead ⊛ half_of backstep
+    Some (λ n k l b. set_up n k l b) ⊛ u8_of nodes ⊛ key_kind_of keys ⊛ u32_of lead ⊛ u32_of backstep
 
 abbrev pub note_of : (node raw : List ℕ) → Option Content
-note_of node raw = Some (λ n r. note n r) ⊛ byte_of node ⊛ whole_of raw
+note_of node raw = Some (λ n r. note n r) ⊛ u8_of node ⊛ u64_of raw
 
 abbrev pub send_of : (node raw to message : List ℕ) → Option Content
 send_of node raw to message =
-    Some (λ n r t m. send n r t m) ⊛ byte_of node ⊛ whole_of raw ⊛ byte_of to ⊛ half_of message
+    Some (λ n r t m. send n r t m) ⊛ u8_of node ⊛ u64_of raw ⊛ u8_of to ⊛ u32_of message
 
 abbrev pub receipt_of : (node raw message : List ℕ) → Option Content
 receipt_of node raw message =
-    Some (λ n r m. receipt n r m) ⊛ byte_of node ⊛ whole_of raw ⊛ half_of message
+    Some (λ n r m. receipt n r m) ⊛ u8_of node ⊛ u64_of raw ⊛ u32_of message
 
 abbrev pub loss_of : (message : List ℕ) → Option Content
-loss_of message = Some (λ m. loss m) ⊛ half_of message
+loss_of message = Some (λ m. loss m) ⊛ u32_of message
 
 abbrev pub put_of : (node raw key value : List ℕ) → Option Content
 put_of node raw key value =
-    Some put_by ⊛ byte_of node ⊛ whole_of raw ⊛ key_of key ⊛ signed_of value
+    Some put_by ⊛ u8_of node ⊛ u64_of raw ⊛ key_of key ⊛ signed_of value
 
 abbrev pub read_of : (at key : List ℕ) → Option Content
 read_of at key = Some read_by ⊛ stamp_of at ⊛ key_of key

@@ -1,20 +1,19 @@
 // Records as a person writes them.
 ghost use Rattle.std.specs.Prelude.{◌≡◌, map};
 ghost use Rattle.std.specs.Option.{option_map};
-ghost use Rattle.numerals.specs.Numerals.{number_of};
 ghost use Rattle.trace.specs.Contents.{content_of};
 ghost use Rattle.spelling.specs.Written.{IsLent, written_content};
-ghost use Rattle.spelling.specs.Records.{key_kind_of, loss_of, note_of, put_of, read_of, receipt_of, record_for, record_of, send_of, set_up_of, stamp_of};
+ghost use Rattle.spelling.specs.Records.{key_kind_of, loss_of, note_of, put_of, read_of, receipt_of, record_for, record_of, send_of, set_up_of, stamp_of, u8_of, u32_of, u64_of};
 
 use crate::key::WrittenKey;
 use crate::verb::Verb;
 use numerals::{number, signed, stamp_code};
 use trace::records::{Key, KeyBytes, Record};
 
-// The record that a line spells. It has the bytes of its key, which a `Record` borrows.
+// The record that a line spells. It holds the bytes of its key, which a `Record` borrows.
 #[derive(Clone, Copy, Debug)]
 pub enum Written {
-    // Any but a put or a read.
+    // All but puts and reads.
     Keyless(Record<'static>),
     Put {
         node: u8,
@@ -28,7 +27,7 @@ pub enum Written {
     },
 }
 
-// The key as a record has it; where it stands in a trace is not known, and not written.
+// The key as a record has it. Where it stands in a trace is not known yet; the writer does not ask.
 fn lent(key: &WrittenKey) -> Key<'_>
     ensures { IsLent key.now result.bytes }
 {
@@ -40,6 +39,7 @@ fn lent(key: &WrittenKey) -> Key<'_>
 }
 
 impl Written {
+    // As the writer of traces takes it.
     pub fn record(&self) -> Record<'_>
         ensures { content_of result ≡ written_content self.now }
     {
@@ -64,22 +64,23 @@ impl Written {
     }
 }
 
-fn byte(word: &[u8]) -> Option<u8>
-    ensures { result ≡ number_of 255 word.now }
+// A number of one byte, of four and of eight.
+fn number_u8(word: &[u8]) -> Option<u8>
+    ensures { result ≡ u8_of word.now }
 {
     let number = number(word, u64::from(u8::MAX))?;
     Some(number as u8)
 }
 
-fn half(word: &[u8]) -> Option<u32>
-    ensures { result ≡ number_of 4294967295 word.now }
+fn number_u32(word: &[u8]) -> Option<u32>
+    ensures { result ≡ u32_of word.now }
 {
     let number = number(word, u64::from(u32::MAX))?;
     Some(number as u32)
 }
 
-fn whole(word: &[u8]) -> Option<u64>
-    ensures { result ≡ number_of 18446744073709551615 word.now }
+fn number_u64(word: &[u8]) -> Option<u64>
+    ensures { result ≡ u64_of word.now }
 {
     number(word, u64::MAX)
 }
@@ -103,18 +104,19 @@ fn key_kind(word: &[u8]) -> Option<u8>
 fn stamp(word: &[u8]) -> Option<u64>
     ensures { result ≡ stamp_of word.now }
 {
-    whole(word).or_else(|| stamp_code(word))
+    number_u64(word).or_else(|| stamp_code(word))
 }
 
+// The records of the words behind the first, one function for each kind.
 fn set_up(nodes: &[u8], keys: &[u8], lead: &[u8], backstep: &[u8]) -> Option<Written>
     ensures { option_map written_content result
         ≡ set_up_of nodes.now keys.now lead.now backstep.now }
 {
     Some(Written::Keyless(Record::SetUp {
-        nodes: byte(nodes)?,
+        nodes: number_u8(nodes)?,
         key_kind: key_kind(keys)?,
-        lead: half(lead)?,
-        backstep: half(backstep)?,
+        lead: number_u32(lead)?,
+        backstep: number_u32(backstep)?,
     }))
 }
 
@@ -122,8 +124,8 @@ fn note(node: &[u8], raw: &[u8]) -> Option<Written>
     ensures { option_map written_content result ≡ note_of node.now raw.now }
 {
     Some(Written::Keyless(Record::Note {
-        node: byte(node)?,
-        raw: whole(raw)?,
+        node: number_u8(node)?,
+        raw: number_u64(raw)?,
     }))
 }
 
@@ -131,10 +133,10 @@ fn send(node: &[u8], raw: &[u8], to: &[u8], message: &[u8]) -> Option<Written>
     ensures { option_map written_content result ≡ send_of node.now raw.now to.now message.now }
 {
     Some(Written::Keyless(Record::Send {
-        node: byte(node)?,
-        raw: whole(raw)?,
-        to: byte(to)?,
-        message: half(message)?,
+        node: number_u8(node)?,
+        raw: number_u64(raw)?,
+        to: number_u8(to)?,
+        message: number_u32(message)?,
     }))
 }
 
@@ -142,9 +144,9 @@ fn receipt(node: &[u8], raw: &[u8], message: &[u8]) -> Option<Written>
     ensures { option_map written_content result ≡ receipt_of node.now raw.now message.now }
 {
     Some(Written::Keyless(Record::Receipt {
-        node: byte(node)?,
-        raw: whole(raw)?,
-        message: half(message)?,
+        node: number_u8(node)?,
+        raw: number_u64(raw)?,
+        message: number_u32(message)?,
     }))
 }
 
@@ -152,7 +154,7 @@ fn loss(message: &[u8]) -> Option<Written>
     ensures { option_map written_content result ≡ loss_of message.now }
 {
     Some(Written::Keyless(Record::Loss {
-        message: half(message)?,
+        message: number_u32(message)?,
     }))
 }
 
@@ -160,8 +162,8 @@ fn put(node: &[u8], raw: &[u8], key: &[u8], value: &[u8]) -> Option<Written>
     ensures { option_map written_content result ≡ put_of node.now raw.now key.now value.now }
 {
     Some(Written::Put {
-        node: byte(node)?,
-        raw: whole(raw)?,
+        node: number_u8(node)?,
+        raw: number_u64(raw)?,
         key: WrittenKey::from_word(key)?,
         value: signed(value)?,
     })
@@ -193,7 +195,7 @@ fn record_by(verb: Verb, words: &[&[u8]]) -> Option<Written>
     }
 }
 
-// The record of these words.
+// The record that the words of a line spell.
 #[tactic(auto, unfolding(crate::specs::Records::record_of))]
 pub fn record(words: &[&[u8]]) -> Option<Written>
     ensures { option_map written_content result ≡ record_of (map (λ word. word.now) words.now) }

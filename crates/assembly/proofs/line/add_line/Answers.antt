@@ -1,5 +1,5 @@
-use Rattle.std.proofs.Common.{◌≡◌, ◌∙◌, ap, map, sym}
-use Rattle.assembly.specs.Lines.{contents_of_line, spelled_by}
+use Rattle.std.proofs.Common.{◌∙◌, ap, map, sym}
+use Rattle.assembly.specs.Lines.{contents_of_line}
 use Rattle.assembly.proofs.Adding.{adds_nothing, adds_one, line_says, not_understood}
 use Rattle.assembly.proofs.line.add_line.Goals as goal
 

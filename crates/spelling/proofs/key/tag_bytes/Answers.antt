@@ -1,4 +1,4 @@
-use Rattle.std.proofs.Common.{◌≡◌, ◌∙◌, sym}
+use Rattle.std.proofs.Common.{◌∙◌, sym}
 use Rattle.spelling.proofs.Padding.{over_zeros}
 use Rattle.spelling.proofs.key.tag_bytes.Goals as goal
 

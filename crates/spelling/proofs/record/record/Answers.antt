@@ -1,4 +1,4 @@
-use Rattle.std.proofs.Common.{◌≡◌, ◌∙◌, ap, sym}
+use Rattle.std.proofs.Common.{◌∙◌, ap, sym}
 use Rattle.std.specs.Option.{option_map}
 use Rattle.spelling.specs.Written.{written_content}
 use Rattle.spelling.proofs.Shapes.{by_verb, no_verb, no_words}

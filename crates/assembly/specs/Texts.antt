@@ -31,6 +31,11 @@ abbrev pub shown_answer : {Z : Type 0} → Result (Vec ℕ Z) NotUnderstood → 
 shown_answer (Ok trace) = Ok trace.items
 shown_answer (Err refused) = Err refused.line
 
+-- the same of an answer that has the number of the lines before it
+abbrev pub shown_lines : {Z : Type 0} → Result (Vec ℕ Z) ℕ → Result (List ℕ) ℕ
+shown_lines (Ok trace) = Ok trace.items
+shown_lines (Err before) = Err (before + 1)
+
 -- a reader finds in the trace just the records that the text spells, and then its end
 pub record ReadsBack (text trace : List ℕ) : Type 0 where
   pub records : contents_of text ≡ Ok (whole_of trace).records

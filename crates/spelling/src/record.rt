@@ -196,7 +196,14 @@ fn record_by(verb: Verb, words: &[&[u8]]) -> Option<Written>
 }
 
 // The record that the words of a line spell.
-#[tactic(auto, unfolding(crate::specs::Records::record_of))]
+#[tactic(
+    auto,
+    using(
+        crate::proofs::Shapes::by_verb,
+        crate::proofs::Shapes::no_verb,
+        crate::proofs::Shapes::no_words
+    )
+)]
 pub fn record(words: &[&[u8]]) -> Option<Written>
     ensures { option_map written_content result ≡ record_of (map (λ word. word.now) words.now) }
 {

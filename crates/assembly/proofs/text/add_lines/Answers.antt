@@ -1,7 +1,7 @@
 use Rattle.std.proofs.Common.{arith}
 use borrow.Author.Tests.{tests}
 use Rattle.assembly.proofs.Assembling.{ends, fails, reads_back, start, step}
-use Rattle.assembly.proofs.text.assemble.Goals as goal
+use Rattle.assembly.proofs.text.add_lines.Goals as goal
 
 pub loop-rest-init : goal.loop-rest-init
 loop-rest-init c = start c.args.text.now c.new-trace.result.items c.new-trace.ensures.items

@@ -1,0 +1,3 @@
+pub mod Adding
+pub mod Assembling
+pub mod Splitting

@@ -1,0 +1,4 @@
+pub mod Keys
+pub mod Records
+pub mod Verbs
+pub mod Written

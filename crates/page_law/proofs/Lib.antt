@@ -1,5 +1,1 @@
 mod Told
-mod Last
-mod Finality
-mod Sources
-mod Inspected

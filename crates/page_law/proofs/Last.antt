@@ -19,7 +19,7 @@ use Rattle.trace_replay.specs.Machine.{behind_call, clocks_of, trace_end, trace_
 use Rattle.page_law.proofs.Told.{IsTold, call_told}
 
 -- what is in neither of two lists is not in both joined
-in_neither : {X : Type 0} (x : X) (xs ys : List X) → (IsIn x xs → ⊥) → (IsIn x ys → ⊥) → IsIn x (xs ++ ys) → ⊥
+pub in_neither : {X : Type 0} (x : X) (xs ys : List X) → (IsIn x xs → ⊥) → (IsIn x ys → ⊥) → IsIn x (xs ++ ys) → ⊥
 in_neither x [] ys first second is_in = second is_in
 in_neither x (z ∷ xs) ys first second (inl here) = first (inl here)
 in_neither x (z ∷ xs) ys first second (inr there) = in_neither x xs ys (λ is_in. first (inr is_in)) second there
@@ -48,10 +48,7 @@ module _ {K : Type 0} where
 
   no_close_told : (last next : List Timestamp) (entry : Option (Entry K)) (listed : ℕ → _) → IsTold last entry listed next
       → IsIn Closed (option_to_list entry) → ⊥
-  no_close_told last next entry listed (inl (e, is)) is_in = go is_in
-    where
-      go : IsIn Closed (option_to_list entry) → ⊥
-      go rewritten = absurd (grind (arith, is.told, rewritten))
+  no_close_told last next entry listed (inl (e, is)) is_in = grind (arith, is.told, is_in)
   no_close_told last next entry listed (inr none) is_in = grind (arith, none.no_close, is_in)
 
 module _ {K : Type 0} (order : K → K → Ordering) (backstep : ℕ) where

@@ -1,2 +1,4 @@
 mod Told
 mod Last
+mod Finality
+mod Sources

@@ -2,3 +2,4 @@ mod Told
 mod Last
 mod Finality
 mod Sources
+mod Inspected

@@ -4,12 +4,14 @@ use Rattle.std.proofs.Common.{sym, ap, ◌∙◌, subst, arith}
 use Rattle.std.specs.Prelude.{◌==◌, ◌&&◌}
 use Rattle.std.specs.List.{find}
 use Rattle.std.specs.declared.cmp.Ordering.{Ordering}
+use Rattle.std.proofs.lemmas.Bool.{cases_order}
 use Rattle.std.proofs.lemmas.Bool.Decides.{nat_tests}
 use Rattle.std.proofs.lemmas.List.{get_or-map, length-map}
 use Rattle.history.specs.Before.{InOneStep, OnOneNode}
-use Rattle.history.specs.Events.{Event, event_at, no_event, puts}
+use Rattle.history.specs.Events.{Event, event_at, no_event, puts, version_of}
 use Rattle.history.specs.History.{Entry, Setup, events_of}
 use Rattle.history.specs.Law.{IsLawful, Later}
+use Rattle.history.proofs.Lists.{placed}
 use Rattle.history.proofs.Places.{NodesRise}
 use Rattle.history.proofs.Puts.{of_put, put_at}
 use Rattle.stamps.specs.Stamp.{code_of}
@@ -52,21 +54,44 @@ module _ {K : Type 0} where
     -- one of a node's stamp comes first, so that none before it has the version's
     module _ (rises : NodesRise only) (place : ℕ) (inside : place < length numbered)
         (node : v.node ≡ (event_at only place).node) (stamp : v.stamp ≡ code_of (event_at only place).stamp) where
-      other_source : (i : ℕ) → i < place → (b : Bool) → is_source v (get_or numbered i nothing) ≡ b → b ≡ false
-      other_source i less true is =
-          let within : place < length only = omega (arith, inside, length-map numbered (λ e. e.event)) in
-          let there = at_place i (omega (arith, less, inside)) in
-          let of_node : (event_at only i).node ≡ (event_at only place).node = grind (arith, nat_tests, is, there, node) in
+      within : place < length only
+      within = omega (arith, inside, length-map numbered (λ e. e.event))
+
+      -- an event of its node and stamp stands neither before nor behind that place
+      at_place_only : (i : ℕ) → i < length numbered → v.node ≡ (get_or numbered i nothing).event.node
+          → v.stamp ≡ code_of (get_or numbered i nothing).event.stamp → i ≡ place
+      at_place_only i there same_node same_stamp =
+          let is = at_place i there in
+          let of_node : (event_at only i).node ≡ (event_at only place).node = grind (arith, is, node, same_node) in
           let of_stamp : code_of (event_at only i).stamp ≡ code_of (event_at only place).stamp =
-          grind (arith, nat_tests, is, there, stamp) in
-          absurd (omega (arith, rises i place less within of_node, of_stamp))
-      other_source i less false is = refl
+          grind (arith, is, stamp, same_stamp) in
+          let too : i < length only = omega (arith, there, length-map numbered (λ e. e.event)) in
+          elim (cases_order i place) [
+            | inl same ↦ same
+            | inr (inl before) ↦ absurd (omega (arith, rises i place before within of_node, of_stamp))
+            | inr (inr behind) ↦ absurd (omega (arith, rises place i behind too (sym of_node), of_stamp))
+          ]
+
+      no_source : (i : ℕ) → i < place → (b : Bool) → is_source v (get_or numbered i nothing) ≡ b → b ≡ false
+      no_source i less true is =
+          let there : i < length numbered = omega (arith, less, inside) in
+          absurd (omega (arith, less, at_place_only i there (grind (arith, nat_tests, is)) (grind (arith, nat_tests, is))))
+      no_source i less false is = refl
 
       found : find (is_source v) numbered ≡ Some (get_or numbered place nothing)
       found =
           let is = at_place place inside in
           finds_first (is_source v) nothing numbered place inside (grind (arith, nat_tests, is, node, stamp))
-          (λ i less. other_source i less _ refl)
+          (λ i less. no_source i less _ refl)
+
+      no_other : (other : Numbered K) → IsIn other numbered → version_of other.event other.event.what ≡ Some v
+          → other ≡ get_or numbered place nothing
+      no_other other is_in put =
+          let stands = placed nothing other numbered is_in in
+          let of = of_put other.event other.event.what v put in
+          let same : stands.0 ≡ place =
+          at_place_only stands.0 stands.1 (rw stands.2 of.node) (rw stands.2 of.stamp) in
+          sym stands.2 ∙ ap (λ i. get_or numbered i nothing) same
 
 module _ {K : Type 0} (form : KeyForm K) (order : K → K → Ordering) (setup : SetUpNumbers) (ms : List Content)
     (rises : NodesRise (events form order setup ms)) where
@@ -80,6 +105,7 @@ module _ {K : Type 0} (form : KeyForm K) (order : K → K → Ordering) (setup :
       let e = event_at (events form order setup ms) put.place in
       let of = of_put e e.what v put.is in
       (get_or all put.place nothing, record {
-        found = found v all rises put.place inside of.node of.stamp;
         put = rw (← there) put.is;
+        no_other = no_other v all rises put.place inside of.node of.stamp;
+        found = found v all rises put.place inside of.node of.stamp;
       })

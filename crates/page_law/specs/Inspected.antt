@@ -25,10 +25,15 @@ module _ {K : Type 0} (form : KeyForm K) (order : K → K → Ordering) (setup :
   abbrev pub events : List (Event K)
   events = map (λ e. e.event) (trace_events form order setup ms)
 
-  -- A version comes from this event: it put it, and the search for the first event of its node and stamp finds it.
+  -- An event put a version.
+  abbrev pub HasPut : Version K → Numbered K → Type 0
+  HasPut v e = version_of e.event e.event.what ≡ Some v
+
+  -- A version comes from this event: it put it, no other did, and the search for the first event of its node and stamp finds it.
   pub record IsFrom (v : Version K) (e : Numbered K) : Type 0 where
+    pub put : HasPut v e
+    pub no_other : (other : Numbered K) → IsIn other (trace_events form order setup ms) → HasPut v other → other ≡ e
     pub found : find (is_source v) (trace_events form order setup ms) ≡ Some e
-    pub put : version_of e.event e.event.what ≡ Some v
 
   -- This node holds the page at a stamp back: its last stamp is below it.
   pub record HoldsBack (stamp node : ℕ) : Type 0 where

@@ -9,7 +9,7 @@ use Rattle.std.proofs.lemmas.Bool.Decides.{nat_tests}
 use Rattle.std.proofs.lemmas.List.{get_or_past, get_or-replicate, length-replicate}
 use Rattle.std.proofs.lemmas.List.Sums.{AllPass-from_list_all}
 use Rattle.history.specs.Events.{Event}
-use Rattle.history.specs.History.{Closed, Cut, Entry, IsSettled, events_of, last_stamp}
+use Rattle.history.specs.History.{Closed, Cut, IsSettled, events_of, last_stamp}
 use Rattle.history.proofs.Entries.{events_of-append}
 use Rattle.history.proofs.Lists.{in_append}
 use Rattle.replay.specs.declared.call.Call.{Call}
@@ -130,11 +130,13 @@ module _ {K : Type 0} (form : KeyForm K) (order : K → K → Ordering) (setup :
 
     held : final_at false stamp ≡ false → (node : ℕ) × HoldsBack form order setup ms stamp node
     held is =
-        let one = below_one stamp (last_state order setup calls).last is in
-        (one.0, record {
-          is_node = omega (arith, one.1, nodes_are);
-          below = rw (← stands.are_last one.0) one.2;
-        })
+        let one = below_one stamp (last_state order setup calls).last is in (
+          one.0,
+          record {
+            is_node = omega (arith, one.1, nodes_are);
+            below = rw (← stands.are_last one.0) one.2;
+          },
+        )
 
     -- it is final, or a node holds it back
     final_by : (b : Bool) → final_at false stamp ≡ b → HaveReached → final_at false stamp ≡ true

@@ -1,5 +1,5 @@
 -- A recorder behind calls has the last stamps that its history has, and its history has no close.
-use Rattle.std.proofs.Common.{◌≡◌, ℕ, inl, inr, List, [], ◌∷◌, ◌++◌, length, Some, Option, refl, sym, ap, ◌∙◌, subst, arith}
+use Rattle.std.proofs.Common.{◌≡◌, ℕ, inl, inr, List, [], ◌∷◌, ◌++◌, length, Option, refl, ◌∙◌, arith}
 use Rattle.std.proofs.Common.{append-nil, append_assoc}
 use Rattle.std.specs.declared.cmp.Ordering.{Ordering}
 use Rattle.std.specs.Option.{option_to_list}
@@ -12,7 +12,7 @@ use Rattle.history.proofs.Last.{last_stamp-push}
 use Rattle.recorder.specs.State.{State}
 use Rattle.replay.specs.Runs.{call_entry}
 use Rattle.replay.specs.declared.call.Call.{Call}
-use Rattle.stamper.specs.Stamps.{stamp_at, with_last}
+use Rattle.stamper.specs.Stamps.{stamp_at}
 use Rattle.stamps.specs.Stamp.{Timestamp, zero_stamp}
 use Rattle.store.specs.Newest.{IsIn}
 use Rattle.trace_replay.specs.Machine.{behind_call, clocks_of, trace_end, trace_told}

@@ -1,7 +1,6 @@
 -- Where the rows of a final page come from.
 use Rattle.std.proofs.Common.{◌≡◌, ℕ, zero, suc, ◌<◌, inl, inr, Bool, true, false, List, [], ◌∷◌, length, map, get_or, Some, refl}
-use Rattle.std.proofs.Common.{sym, ap, ◌∙◌, subst, arith}
-use Rattle.std.specs.Prelude.{◌==◌, ◌&&◌}
+use Rattle.std.proofs.Common.{sym, ap, ◌∙◌, arith}
 use Rattle.std.specs.List.{find}
 use Rattle.std.specs.declared.cmp.Ordering.{Ordering}
 use Rattle.std.proofs.lemmas.Bool.{cases_order}
@@ -103,9 +102,11 @@ module _ {K : Type 0} (form : KeyForm K) (order : K → K → Ordering) (setup :
       let inside : put.place < length all = omega (arith, put.inside, length-map all (λ e. e.event)) in
       let there = at_place v all put.place inside in
       let e = event_at (events form order setup ms) put.place in
-      let of = of_put e e.what v put.is in
-      (get_or all put.place nothing, record {
-        put = rw (← there) put.is;
-        no_other = no_other v all rises put.place inside of.node of.stamp;
-        found = found v all rises put.place inside of.node of.stamp;
-      })
+      let of = of_put e e.what v put.is in (
+        get_or all put.place nothing,
+        record {
+          put = rw (← there) put.is;
+          no_other = no_other v all rises put.place inside of.node of.stamp;
+          found = found v all rises put.place inside of.node of.stamp;
+        },
+      )

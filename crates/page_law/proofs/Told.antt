@@ -1,5 +1,5 @@
 -- What each call of a trace comes to, in its events and in its history alike.
-use Rattle.std.proofs.Common.{◌≡◌, ◌≢◌, ℕ, ◌+◌, ◌-◌, ◌<◌, ◌≤◌, ◌⊎◌, inl, inr, List, [], ◌∷◌, ◌++◌, length, map, refl, sym, ap, ◌∙◌}
+use Rattle.std.proofs.Common.{◌≡◌, ◌≢◌, ℕ, ◌+◌, ◌-◌, ◌<◌, ◌≤◌, ◌⊎◌, inl, inr, List, [], ◌∷◌, ◌++◌, length, map, refl, ap}
 use Rattle.std.proofs.Common.{Some, None, Ok, Err, Option, Result, arith, Vec, Global}
 use Rattle.std.specs.declared.cmp.Ordering.{Ordering}
 use Rattle.std.specs.List.{cons_option}
@@ -15,11 +15,10 @@ use Rattle.messages.specs.Messages.{MessageNumbers, message_of}
 use Rattle.recorder.specs.Answers.{clock_answer, note_answer, put_answer, receipt_answer, send_answer}
 use Rattle.recorder.specs.Changes.{after_note, after_put, after_receipt, after_send}
 use Rattle.recorder.specs.State.{State}
-use Rattle.replay.specs.Calls.{AnswerNumbers, CutAnswer, EventAnswer, ReadAnswer, call_answer}
+use Rattle.replay.specs.Calls.{CutAnswer, EventAnswer, ReadAnswer, call_answer}
 use Rattle.replay.specs.Runs.{call_entry, event_entry, question_entry}
 use Rattle.replay.specs.declared.call.Call.{Call}
 use Rattle.replay.specs.declared.call.Call.TheVariants as call
-use Rattle.replay.specs.declared.call.Question.{Question}
 use Rattle.replay.specs.declared.call.Question.TheVariants as question
 use Rattle.stamper.specs.Readings.{at_reading}
 use Rattle.stamper.specs.Stamps.{stamp_at, with_last}
@@ -27,7 +26,7 @@ use Rattle.stamps.specs.Rules.{StampedNumbers, event_answer, own_stamp, receipt_
 use Rattle.stamps.specs.Stamp.{Timestamp}
 use Rattle.store.specs.declared.version.Version.{Version}
 use Rattle.trace.specs.Contents.{Content}
-use Rattle.trace_history.specs.Events.{Deed, Numbered, answers_left, deed_by, event_by, next_event, numbered_events}
+use Rattle.trace_history.specs.Events.{Numbered, answers_left, deed_by, event_by, next_event, numbered_events}
 use Rattle.trace_replay.specs.Machine.{behind_call, clocks_of, highs_after, trace_answers, trace_told}
 use Rattle.trace_run.specs.Calls.{KeyForm, call_of, calls_of}
 

@@ -1,0 +1,5 @@
+mod Told
+mod Last
+mod Finality
+mod Sources
+mod Inspected

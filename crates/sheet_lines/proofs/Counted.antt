@@ -1,10 +1,11 @@
 -- The puts among events, event by event.
 use Rattle.std.proofs.Common.{◌≡◌, ℕ, suc, ◌+◌, ◌<◌, List, [], ◌∷◌, length, take, get_or, ap, ◌∙◌, arith}
 use Rattle.std.proofs.Math.Seq.{take-suc}
-use Rattle.std.proofs.lemmas.List.{length-append, map-append}
+use Rattle.std.proofs.lemmas.List.{length-append}
 use Rattle.history.specs.Events.{puts}
 use Rattle.history.proofs.Puts.{puts-append}
 use Rattle.trace_history.specs.Shown.{event_numbers, events_in}
+use Rattle.trace_history.proofs.Latest.{events_in-push}
 use Rattle.trace_history.specs.declared.events.Event.{Event}
 
 -- one event more
@@ -16,6 +17,6 @@ puts_more events i d inside =
     let e = get_or events i d in
     ap (λ n. length (puts (events_in (take n events)))) next_is
     ∙ ap (λ es. length (puts (events_in es))) (take-suc events i d inside)
-    ∙ ap (λ es. length (puts es)) (map-append (λ e. (event_numbers e).event) (take i events) (e ∷ []))
+    ∙ ap (λ es. length (puts es)) (events_in-push (take i events) e)
     ∙ ap length (puts-append (events_in (take i events)) ((event_numbers e).event ∷ []))
     ∙ length-append (puts (events_in (take i events))) (puts ((event_numbers e).event ∷ []))

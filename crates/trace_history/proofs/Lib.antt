@@ -1,3 +1,3 @@
 mod Found
-mod Latest
+pub mod Latest
 mod Listed

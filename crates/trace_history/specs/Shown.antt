@@ -28,4 +28,4 @@ module _ {K : Type 0} where
 
   -- events, as the history has them
   abbrev pub events_in : List (Event K) → List (history.Event K)
-  events_in events = map (λ e. (event_numbers e).event) events
+  events_in events = map (λ e. e.event) (map event_numbers events)

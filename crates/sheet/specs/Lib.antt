@@ -1,0 +1,4 @@
+pub mod Answers
+pub mod NoPage
+pub mod Printed
+pub mod Sheet

@@ -1,0 +1,8 @@
+// The sheet of a trace: the page at a stamp, with what the inspector asks.
+#![tactic(auto)]
+
+pub mod no_page;
+pub mod request;
+pub mod sheet;
+
+mod printing;

@@ -104,10 +104,12 @@ module _ {K : Type 0} (form : KeyForm K) (order : K → K → Ordering) (setup :
       let there = at_place v all put.place inside in
       let e = event_at (events form order setup ms) put.place in
       let of = of_put e e.what v put.is in
-      let is_put : HasPut form order setup ms v (get_or all put.place nothing) = rw (← there) put.is in
-      (get_or all put.place nothing, record {
-        put = is_put;
-        recorded = recorded form order setup ms v _ (at_in nothing all put.place inside) is_put;
-        no_other = no_other v all rises put.place inside of.node of.stamp;
-        found = found v all rises put.place inside of.node of.stamp;
-      })
+      let is_put : HasPut form order setup ms v (get_or all put.place nothing) = rw (← there) put.is in (
+        get_or all put.place nothing,
+        record {
+          put = is_put;
+          recorded = recorded form order setup ms v _ (at_in nothing all put.place inside) is_put;
+          no_other = no_other v all rises put.place inside of.node of.stamp;
+          found = found v all rises put.place inside of.node of.stamp;
+        },
+      )

@@ -1,6 +1,6 @@
 -- The record of an event's number calls for what the event did.
-use Rattle.std.proofs.Common.{◌≡◌, ℕ, ◌+◌, inl, inr, List, [], ◌∷◌, ◌++◌, length, Some, None, Ok, Err, Option, Result, refl, sym, ap}
-use Rattle.std.proofs.Common.{◌∙◌, arith}
+use Rattle.std.proofs.Common.{◌≡◌, ℕ, ◌+◌, inl, inr, List, [], ◌∷◌, ◌++◌, length, Some, None, Ok, Err, Option, Result, refl}
+use Rattle.std.proofs.Common.{sym, ap, ◌∙◌, arith}
 use Rattle.std.specs.List.{cons_option}
 use Rattle.std.specs.declared.cmp.Ordering.{Ordering}
 use Rattle.clocks.specs.declared.sample.Sample.{Sample}
@@ -99,8 +99,9 @@ module _ {K : Type 0} (form : KeyForm K) where
       (λ there. record_behind first m ms e (has_record (first + 1) ms (answers_left (call_of form m) answers) e there))
 
   -- a put is called for by a put
-  put_by : (v : Version K) (e : Numbered K) (c : Call K) (what : What K) → deed_by c ≡ Some (record { node = e.event.node; what = what })
-      → version_of e.event what ≡ Some v → (sample : Sample) × (sample.node ≡ v.node) × (c ≡ call.Put sample v.key v.value)
+  put_by : (v : Version K) (e : Numbered K) (c : Call K) (what : What K)
+      → deed_by c ≡ Some (record { node = e.event.node; what = what }) → version_of e.event what ≡ Some v
+      → (sample : Sample) × (sample.node ≡ v.node) × (c ≡ call.Put sample v.key v.value)
   put_by v e c Note deed put = absurd (cc put)
   put_by v e c (Send number) deed put = absurd (cc put)
   put_by v e c (Receipt number) deed put = absurd (cc put)

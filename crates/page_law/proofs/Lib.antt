@@ -1,5 +1,6 @@
 mod Told
 mod Last
 mod Finality
+mod Recorded
 mod Sources
-mod Inspected
+pub mod Inspected

@@ -10,7 +10,7 @@ use Rattle.history.specs.Before.{InOneStep, OnOneNode}
 use Rattle.history.specs.Events.{Event, event_at, no_event, puts, version_of}
 use Rattle.history.specs.History.{Entry, Setup, events_of}
 use Rattle.history.specs.Law.{IsLawful, Later}
-use Rattle.history.proofs.Lists.{placed}
+use Rattle.history.proofs.Lists.{at_in, placed}
 use Rattle.history.proofs.Places.{NodesRise}
 use Rattle.history.proofs.Puts.{of_put, put_at}
 use Rattle.stamps.specs.Stamp.{code_of}
@@ -22,7 +22,8 @@ use Rattle.trace_history.specs.Source.{is_source}
 use Rattle.trace_history.specs.Trace.{trace_events}
 use Rattle.trace_run.specs.Calls.{KeyForm}
 use Rattle.trace_run.specs.SetUp.{SetUpNumbers}
-use Rattle.page_law.specs.Inspected.{IsFrom, events}
+use Rattle.page_law.specs.Inspected.{HasPut, IsFrom, events}
+use Rattle.page_law.proofs.Recorded.{recorded}
 
 -- a search finds the first that passes
 finds_first : {X : Type 0} (test : X → Bool) (d : X) (xs : List X) (place : ℕ) → place < length xs
@@ -102,10 +103,12 @@ module _ {K : Type 0} (form : KeyForm K) (order : K → K → Ordering) (setup :
       let inside : put.place < length all = omega (arith, put.inside, length-map all (λ e. e.event)) in
       let there = at_place v all put.place inside in
       let e = event_at (events form order setup ms) put.place in
-      let of = of_put e e.what v put.is in (
+      let of = of_put e e.what v put.is in
+      let is_put : HasPut form order setup ms v (get_or all put.place nothing) = rw (← there) put.is in (
         get_or all put.place nothing,
         record {
-          put = rw (← there) put.is;
+          put = is_put;
+          recorded = recorded form order setup ms v _ (at_in nothing all put.place inside) is_put;
           no_other = no_other v all rises put.place inside of.node of.stamp;
           found = found v all rises put.place inside of.node of.stamp;
         },

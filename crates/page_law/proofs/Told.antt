@@ -202,7 +202,8 @@ module _ {K : Type 0} (order : K → K → Ordering) (backstep : ℕ) where
         → ((s : State (ℕ → ℕ) K) → AreListed (number + 1) ms s)
         → let calls = cons_option (result_ok c) (calls_of form ms) in
         let answers = trace_answers order backstep s calls in
-        map (λ e. e.event) (cons_option (next_event number c answers) (numbered_events form (number + 1) ms (answers_left c answers)))
+        let others = numbered_events form (number + 1) ms (answers_left c answers) in
+        map (λ e. e.event) (cons_option (next_event number c answers) others)
         ≡ events_of (trace_told order backstep s calls)
     listed_by (Err refusal) number ms s more = more s
     listed_by (Ok c) number ms s more = one_listed s c number _ _ (more (behind_call order backstep s c))

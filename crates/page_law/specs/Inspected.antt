@@ -1,11 +1,13 @@
 -- What the law of whole runs says of the page of a trace.
-use Rattle.std.specs.Prelude.{◌≡◌, ℕ, ◌+◌, ◌<◌, ◌≤◌, ◌↔◌, Bool, true, false, List, length, map, Some, Result}
+use Rattle.std.specs.Prelude.{◌≡◌, ℕ, ◌+◌, ◌<◌, ◌≤◌, ◌↔◌, Bool, true, false, List, ◌∷◌, ◌++◌, length, map, Some, Ok, Result}
 use Rattle.std.specs.declared.cmp.Ordering.{Ordering}
 use Rattle.std.specs.List.{find}
+use Rattle.clocks.specs.declared.sample.Sample.{Sample}
 use Rattle.history.specs.Events.{Event, event_at, puts, version_of}
 use Rattle.history.specs.History.{Entry, IsHistory, IsSettled, events_of, last_stamp}
 use Rattle.history.specs.Law.{IsLawful}
 use Rattle.replay.specs.Calls.{AnswerNumbers}
+use Rattle.replay.specs.declared.call.Call.TheVariants as call
 use Rattle.stamps.specs.Stamp.{code_of}
 use Rattle.store.specs.Newest.{IsIn}
 use Rattle.store.specs.Page.{IsPage}
@@ -16,7 +18,7 @@ use Rattle.trace_history.specs.Source.{is_source}
 use Rattle.trace_history.specs.Trace.{bound_of, highest_code, newest_final, trace_events}
 use Rattle.trace_replay.specs.Page.{IsPaged, is_final, page_history, rows_at}
 use Rattle.trace_replay.specs.Traced.{history_setup}
-use Rattle.trace_run.specs.Calls.{KeyForm, calls_of}
+use Rattle.trace_run.specs.Calls.{KeyForm, call_of, calls_of}
 use Rattle.trace_run.specs.SetUp.{SetUpNumbers}
 
 -- The records of a trace behind its set-up.
@@ -29,9 +31,21 @@ module _ {K : Type 0} (form : KeyForm K) (order : K → K → Ordering) (setup :
   abbrev pub HasPut : Version K → Numbered K → Type 0
   HasPut v e = version_of e.event e.event.what ≡ Some v
 
+  -- The record of this number puts a version's value under its key, at its node. (The set-up has the number 1.)
+  pub record IsPutBy (v : Version K) (number : ℕ) : Type 0 where
+    pub earlier : List Content
+    pub content : Content
+    pub later : List Content
+    pub place : ms ≡ earlier ++ content ∷ later
+    pub count : number ≡ length earlier + 2
+    pub sample : Sample
+    pub node : sample.node ≡ v.node
+    pub calls : call_of form content ≡ Ok (call.Put sample v.key v.value)
+
   -- A version comes from this event: it put it, no other did, and the search for the first event of its node and stamp finds it.
   pub record IsFrom (v : Version K) (e : Numbered K) : Type 0 where
     pub put : HasPut v e
+    pub recorded : IsPutBy v e.number
     pub no_other : (other : Numbered K) → IsIn other (trace_events form order setup ms) → HasPut v other → other ≡ e
     pub found : find (is_source v) (trace_events form order setup ms) ≡ Some e
 

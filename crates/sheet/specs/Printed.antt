@@ -15,5 +15,5 @@ module _ {K : Type 0} (name : K → List ℕ) (setup : SetUpNumbers) (closed : B
   body_lines (Err refusal) = waiting_lines refusal (map (λ e. e.event) events) stamp setup.settings.nodes
 
   -- the sheet
-  abbrev pub printed : List Content → Result (List (Version K)) ℕ → List ℕ
+  unfoldable pub printed : List Content → Result (List (Version K)) ℕ → List ℕ
   printed ms page = head_lines setup (put_counts ms (map (λ e. e.event) events)) stamp ++ body_lines page

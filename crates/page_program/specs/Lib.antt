@@ -1,0 +1,2 @@
+pub mod Arguments
+pub mod Printed

@@ -1,5 +1,6 @@
 -- What one line adds to a trace.
-use Rattle.std.proofs.Common.{◌≡◌, ℕ, ◌+◌, ◌∙◌, ◌++◌, Bool, true, false, List, [], ◌∷◌, length, take, drop, map, is_ok, OnOk, Some, None, Ok, Err, Option, Result, Bor}
+use Rattle.std.proofs.Common.{◌≡◌, ℕ, ◌+◌, ◌∙◌, ◌++◌, Bool, true, false, List, [], ◌∷◌, length, take, drop, map, is_ok}
+use Rattle.std.proofs.Common.{OnOk, Some, None, Ok, Err, Option, Result, Bor}
 use Rattle.std.proofs.Common.{ap, sym, subst, refl, append-nil, arith}
 use Rattle.std.specs.Prelude.{if◌then◌else◌}
 use Rattle.std.proofs.Math.Seq.{take-append_seam}
@@ -34,6 +35,7 @@ pub line_says : (line : List ℕ) (words : List (Bor (List ℕ))) (said : Line) 
 unfolding records_of
 line_says line words said same says = says ∙ ap spelled_by same
 
+-- what is added of a line that says nothing, of a record, and of a line that is not understood
 pub adds_nothing : (records : Option (List Content)) (trace : List ℕ) → Some [] ≡ records → AddsLine records trace trace true
 adds_nothing records trace is =
     subst (λ records. AddsLine records trace trace true) is (refl, sym (append-nil trace), All-nil IsInRange)
@@ -41,9 +43,12 @@ adds_nothing records trace is =
 pub adds_one : (records : Option (List Content)) (m n : Content) (trace after : List ℕ) → Some (m ∷ []) ≡ records → n ≡ m
     → after ≡ trace ++ encoding_of n → IsInRange n → AddsLine records trace after true
 adds_one records m n trace after is same bytes fits =
-    subst (λ records. AddsLine records trace after true) is
-    (refl, bytes ∙ ap (λ (m : Content). trace ++ encoding_of m) same ∙ ap (λ (t : List ℕ). trace ++ t) (sym (append-nil (encoding_of m))),
-    All-cons IsInRange m [] (subst IsInRange same fits) (All-nil IsInRange))
+    subst (λ records. AddsLine records trace after true) is (
+      refl,
+      bytes ∙ ap (λ (m : Content). trace ++ encoding_of m) same
+    ∙ ap (λ (t : List ℕ). trace ++ t) (sym (append-nil (encoding_of m))),
+      All-cons IsInRange m [] (subst IsInRange same fits) (All-nil IsInRange),
+    )
 
 -- a record that was written over the first of a buffer's bytes and added from there
 pub gained : {E : Type 0} (m : Content) (r : Result ℕ Refusal) (end : ℕ) (buffer after was is : List ℕ) (o : Result (Unit {0}) E)
@@ -52,8 +57,10 @@ pub gained : {E : Type 0} (m : Content) (r : Result ℕ Refusal) (end : ℕ) (bu
 gained m r end buffer after was is (Err e) fits answer ok wrote added = tt
 gained m r end buffer after was is (Ok u) fits answer ok wrote added =
     let in_range : IsInRange m = subst (λ (r : Result ℕ Refusal). OnOk r (IsInRange m)) ok fits in
-    let number : Ok end ≡ write_answer m 0 buffer = subst (λ (r : Result ℕ Refusal). shown r ≡ write_answer m 0 buffer) ok answer in
-    added ∙ ap (λ (t : List ℕ). was ++ take end t) wrote ∙ ap (λ (t : List ℕ). was ++ t) (written_first m end buffer in_range number)
+    let number : Ok end ≡ write_answer m 0 buffer =
+    subst (λ (r : Result ℕ Refusal). shown r ≡ write_answer m 0 buffer) ok answer in
+    added ∙ ap (λ (t : List ℕ). was ++ take end t) wrote
+    ∙ ap (λ (t : List ℕ). was ++ t) (written_first m end buffer in_range number)
 
 pub not_understood : (records : Option (List Content)) (trace : List ℕ) → None ≡ records → AddsLine records trace trace false
 not_understood records trace is = subst (λ records. AddsLine records trace trace false) is refl

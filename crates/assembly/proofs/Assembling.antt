@@ -1,5 +1,6 @@
 -- A text on the way to its trace.
-use Rattle.std.proofs.Common.{◌≡◌, ℕ, ◌+◌, ◌<◌, ◌≤◌, ◌∙◌, ◌++◌, zero, suc, Bool, true, false, All, List, [], ◌∷◌, length, Some, None, Ok, Err, Option, Result, get_or}
+use Rattle.std.proofs.Common.{◌≡◌, ℕ, ◌+◌, ◌<◌, ◌≤◌, ◌∙◌, ◌++◌, zero, suc, Bool, true, false, All, List, [], ◌∷◌}
+use Rattle.std.proofs.Common.{length, Some, None, Ok, Err, Option, Result, get_or}
 use Rattle.std.proofs.Common.{ap, sym, subst, refl, append-nil, append_assoc, lit<, arith}
 use Rattle.std.specs.List.{after_first, before_first, slice_split}
 use Rattle.std.proofs.lemmas.List.Elements.{All-append, All-nil}
@@ -16,6 +17,7 @@ use Rattle.assembly.proofs.Splitting.{by_line, nothing}
 abbrev pub onward : List Content → Result (List Content) ℕ → Result (List Content) ℕ
 onward done later = result_map (λ rest. done ++ rest) later
 
+-- in steps
 onward_none : (later : Result (List Content) ℕ) → later ≡ onward [] later
 onward_none (Ok rest) = refl
 onward_none (Err n) = refl
@@ -39,6 +41,7 @@ pub record Assembling (text rest : List ℕ) (before : ℕ) (trace : List ℕ) :
   pub octets : All (λ byte. byte < 256) trace
   pub short : before + length rest ≤ length text
 
+-- before the first line
 pub start : (text trace : List ℕ) → trace ≡ [] → Assembling text text 0 trace
 unfolding contents_of
 start text trace none = record {
@@ -50,7 +53,9 @@ start text trace none = record {
   short = omega arith;
 }
 
-taken : (text rest line behind : List ℕ) (before : ℕ) → line ≡ before_first is_line_feed rest → behind ≡ after_first is_line_feed rest
+-- the next line is taken
+taken : (text rest line behind : List ℕ) (before : ℕ) → line ≡ before_first is_line_feed rest
+    → behind ≡ after_first is_line_feed rest
     → records_from (before + 1) (slice_split is_line_feed rest)
     ≡ records_with (before + 1) (records_of line) (records_from (before + 1 + 1) (slice_split is_line_feed behind))
 taken text rest line behind before first second =
@@ -75,9 +80,9 @@ step text rest line behind before trace after w first second less understood so 
       bytes = a.1 ∙ ap (λ (t : List ℕ). t ++ trace_of ms) w.bytes ∙ trace_of-append w.done ms;
       ranges = All-append IsInRange w.done ms w.ranges a.2;
       todo =
-        w.todo ∙ ap (onward w.done) (taken text rest line behind before first second ∙ ap (λ (r : Option (List Content)).
-        records_with (before + 1) r (records_from (before + 1 + 1) (slice_split is_line_feed behind))) is)
-        ∙ onward_twice w.done ms (records_from (before + 1 + 1) (slice_split is_line_feed behind));
+          w.todo ∙ ap (onward w.done) (taken text rest line behind before first second ∙ ap (λ (r : Option (List Content)).
+          records_with (before + 1) r (records_from (before + 1 + 1) (slice_split is_line_feed behind))) is)
+          ∙ onward_twice w.done ms (records_from (before + 1 + 1) (slice_split is_line_feed behind));
       octets = octets;
       short = omega (arith, w.short);
     }

@@ -1,5 +1,6 @@
 -- A text and its first line.
-use Rattle.std.proofs.Common.{◌≡◌, ℕ, ◌+◌, ◌<◌, ◌≤◌, ◌∙◌, Bool, true, false, List, [], ◌∷◌, length, get_or, map, Some, None, Bor, ap, sym, refl, arith, not, cond, nat_lt}
+use Rattle.std.proofs.Common.{◌≡◌, ℕ, ◌+◌, ◌<◌, ◌≤◌, ◌∙◌, Bool, true, false, List, [], ◌∷◌, length, get_or, map, Some}
+use Rattle.std.proofs.Common.{None, Bor, ap, sym, refl, arith, not, cond, nat_lt}
 use Rattle.std.specs.Prelude.{◌==◌, position, slice_index}
 use Rattle.std.specs.List.{after_first, before_first, onto_first, position_or_len, slice_split}
 use Rattle.std.proofs.lemmas.Bool.{ltb-true, ltb-false}
@@ -19,6 +20,7 @@ at_line_feed text place h = go (nat_lt (reach text) (length text)) h
     go true h = cc
     go false h = cc
 
+-- without one it is past the end
 past : (text : List ℕ) → position is_line_feed text ≡ None → length text ≤ reach text
 past text h = go (nat_lt (reach text) (length text)) refl h
   where
@@ -37,12 +39,14 @@ all_one_line text h = record { line = take_all _ text h; behind = drop_all _ tex
 pub no_line_feed : (text : List ℕ) → position is_line_feed text ≡ None → NoLineFeed text
 no_line_feed text h = all_one_line text (past text h)
 
+-- what is left is one line
 last_line : (text : List ℕ) → length text ≤ reach text → slice_split is_line_feed text ≡ text ∷ []
 last_line [] h = refl
 last_line (x ∷ xs) h = go (is_line_feed x) h (last_line xs)
   where
     go : (b : Bool) → length (x ∷ xs) ≤ cond (not b) (1 + reach xs) 0
-        → (length xs ≤ reach xs → slice_split is_line_feed xs ≡ xs ∷ []) → cond b ([] ∷ slice_split is_line_feed xs) (onto_first x (slice_split is_line_feed xs)) ≡ (x ∷ xs) ∷ []
+        → (length xs ≤ reach xs → slice_split is_line_feed xs ≡ xs ∷ [])
+        → cond b ([] ∷ slice_split is_line_feed xs) (onto_first x (slice_split is_line_feed xs)) ≡ (x ∷ xs) ∷ []
     go true h rest = absurd (omega arith)
     go false h rest = ap (onto_first x) (rest (omega arith))
 
@@ -71,6 +75,7 @@ by_line number text = go (nat_lt (reach text) (length text)) refl
         ∙ ap (λ (behind : List ℕ). records_with number (records_of (before_first is_line_feed text))
         (records_from (number + 1) (slice_split is_line_feed behind))) (sym one.behind)
 
+-- whether words say nothing, by the first
 pub no_word : (ws : List (Bor (List ℕ))) → length ws ≡ 0 → is_silent (map (λ word. word.now) ws) ≡ true
 unfolding is_silent
 no_word [] h = refl

@@ -7,8 +7,7 @@ use Rattle.std.specs.declared.process.ExitCode.{ExitCode}
 abbrev pub message_of : ℕ → List ℕ
 message_of line = codes "line " ++ (decimal line ++ (codes " is not understood" ++ 10 ∷ []))
 
--- what an output and the standard error hold before and after, and the status: the output gains the
--- trace; or it stays, and the error gains the message
+-- the output gains the trace, with status 0; or it stays, and the error gains the message, with 1
 abbrev pub Told : Result (List ℕ) ℕ → (output written errors said : Option (List ℕ)) → ExitCode → Type 0
 Told (Ok trace) output written errors said code =
     Appends output written trace × (said ≡ errors) × (code.status ≡ 0)

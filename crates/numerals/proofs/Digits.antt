@@ -1,5 +1,6 @@
 -- What the library says of digits.
-use Rattle.std.proofs.Common.{◌≡◌, ℕ, ◌<◌, ◌^◌, ◌&&◌, Bool, true, false, List, length, Some, None, Ok, Err, Result, refl, arith, nat_le}
+use Rattle.std.proofs.Common.{◌≡◌, ℕ, ◌<◌, ◌^◌, ◌&&◌, Bool, true, false, List, length, Some, None, Ok, Err, Result}
+use Rattle.std.proofs.Common.{refl, arith, nat_le}
 use Rattle.std.specs.Prelude.{if◌then◌else◌}
 use Rattle.std.specs.List.{list_all}
 use Rattle.std.specs.Char.{is_ascii_digit}
@@ -26,9 +27,11 @@ tells = record {
   more = λ c cs h t. grind (arith, nat_tests);
 }
 
+-- so they are numerals, in the library's sense
 own : IsNumeralModel (λ word. list_all is_ascii_digit word ≡ true) (digits_value 10)
 own = numerals_by_value _ tells
 
+-- digits are ASCII
 digit_is_ascii : (c : ℕ) → is_ascii_digit c ≡ true → c < 128
 digit_is_ascii c h = grind (arith, nat_tests)
 

@@ -1,5 +1,6 @@
 -- Numbers as a person writes them.
-use Rattle.std.specs.Prelude.{ℕ, ◌+◌, ◌*◌, Bool, ◌&&◌, ◌==◌, if◌then◌else◌, List, length, drop, position, take, Option, Some, None, option_and_then, ℤ, pos, neg_ℤ, nat_le}
+use Rattle.std.specs.Prelude.{ℕ, ◌+◌, ◌*◌, Bool, ◌&&◌, ◌==◌, if◌then◌else◌, List, length, drop, position, take, Option}
+use Rattle.std.specs.Prelude.{Some, None, option_and_then, ℤ, pos, neg_ℤ, nat_le}
 use Rattle.std.specs.List.{list_all}
 use Rattle.std.specs.Char.{is_ascii_digit}
 use Rattle.std.specs.Option.{option_map}

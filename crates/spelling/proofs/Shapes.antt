@@ -1,5 +1,6 @@
 -- The words behind the first, by how many they are.
-use Rattle.std.proofs.Common.{◌≡◌, ◌≢◌, ℕ, List, [], ◌∷◌, length, get_or, map, None, Some, Option, Bor, ◌∙◌, ap, sym, refl, option_and_then, arith}
+use Rattle.std.proofs.Common.{◌≡◌, ◌≢◌, ℕ, List, [], ◌∷◌, length, get_or, map, None, Some, Option, Bor, ◌∙◌, ap, sym}
+use Rattle.std.proofs.Common.{refl, option_and_then, arith}
 use Rattle.spelling.specs.declared.verb.Verb.{Verb}
 use Rattle.spelling.specs.declared.verb.Verb.TheVariants.{SetUp, Note, Send, Receipt, Loss, Put, Read}
 use Rattle.spelling.specs.Records.{loss_of, note_of, put_of, read_of, receipt_of, record_for, record_of, send_of, set_up_of}
@@ -16,6 +17,7 @@ texts ws = map (λ word. word.now) ws
 abbrev pub at : Words → ℕ → Bor (List ℕ) → List ℕ
 at ws i d = (get_or ws i d).now
 
+-- a slice of so many words is a list of so many
 one : (P : Words → Type 0) → ((a : Bor (List ℕ)) → P (a ∷ [])) → (ws : Words) → length ws ≡ 1 → P ws
 one P p [] h = absurd (omega arith)
 one P p (a ∷ []) h = p a
@@ -33,6 +35,7 @@ four : (P : Words → Type 0) → ((a b c d : Bor (List ℕ)) → P (a ∷ b ∷
 four P p [] h = absurd (omega arith)
 four P p (a ∷ ws) h = three (λ ws. P (a ∷ ws)) (p a) ws (omega arith)
 
+-- and has the record of its words
 module _ (d : Bor (List ℕ)) where
   pub set_up_at : (ws : Words) → length ws ≡ 4
       → set_up_of (at ws 0 d) (at ws 1 d) (at ws 2 d) (at ws 3 d) ≡ record_for SetUp (texts ws)
@@ -89,11 +92,13 @@ none_at Put (a ∷ b ∷ c ∷ d ∷ []) h = absurd (h refl)
 none_at Read (a ∷ b ∷ []) h = absurd (h refl)
 none_at verb ws h = refl
 
+-- no words are no record
 pub no_words : (ws : Words) → length ws ≡ 0 → None ≡ record_of (texts ws)
 unfolding record_of
 no_words [] h = refl
 no_words (a ∷ ws) h = absurd (omega arith)
 
+-- words by their first
 by_first : (ws rest : Words) (first : Bor (List ℕ)) → IsFirstAndRest ws first rest
     → option_and_then (λ verb. record_for verb (texts rest)) (verb_of first.now) ≡ record_of (texts ws)
 unfolding record_of
@@ -105,7 +110,9 @@ pub no_verb : (ws rest : Words) (first : Bor (List ℕ)) → IsFirstAndRest ws f
 no_verb ws rest first h e =
     ap (λ (verb : Option Verb). option_and_then (λ verb. record_for verb (texts rest)) verb) (sym e) ∙ by_first ws rest first h
 
-pub by_verb : (ws rest : Words) (first : Bor (List ℕ)) (verb : Verb) → IsFirstAndRest ws first rest → verb_of first.now ≡ Some verb
+-- and else the record of the words behind it
+pub by_verb : (ws rest : Words) (first : Bor (List ℕ)) (verb : Verb) → IsFirstAndRest ws first rest
+    → verb_of first.now ≡ Some verb
     → record_for verb (texts rest) ≡ record_of (texts ws)
 by_verb ws rest first verb h e =
     ap (λ (verb : Option Verb). option_and_then (λ verb. record_for verb (texts rest)) verb) (sym e) ∙ by_first ws rest first h

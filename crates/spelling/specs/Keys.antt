@@ -1,5 +1,6 @@
 -- Keys as a person writes them.
-use Rattle.std.specs.Prelude.{ℕ, ◌-◌, Bool, ◌&&◌, ◌==◌, if◌then◌else◌, List, ◌++◌, length, drop, take, replicate, Option, Some, None, nat_le, slice_index}
+use Rattle.std.specs.Prelude.{ℕ, ◌-◌, Bool, ◌&&◌, ◌==◌, if◌then◌else◌, List, ◌++◌, length, drop, take, replicate}
+use Rattle.std.specs.Prelude.{Option, Some, None, nat_le, slice_index}
 use Rattle.std.specs.List.{list_all}
 use Rattle.std.specs.Option.{option_map}
 use Rattle.keys.specs.Name.{is_name_byte}
@@ -35,4 +36,3 @@ key_of word =
     (if is_numeral word
     then option_map (λ point. Point (bytes_of 4 point)) (number_of 4294967295 word)
     else option_map (λ bytes. Tag bytes) (tag_of (unquoted word)))
-

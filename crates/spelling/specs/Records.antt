@@ -12,20 +12,21 @@ use Rattle.spelling.specs.Keys.{key_of}
 use Rattle.spelling.specs.Verbs.{verb_of}
 
 infixl 5 ◌⊛◌
-
 -- a record that wants one more field, with that field, if both are there
 abbrev pub ◌⊛◌ : {A B : Type 0} → Option (A → B) → Option A → Option B
 None ⊛ field = None
 Some part ⊛ None = None
 Some part ⊛ Some field = Some (part field)
 
--- a number of one byte, of four and of eight
+-- a number of one byte
 abbrev pub u8_of : List ℕ → Option ℕ
 u8_of word = number_of 255 word
 
+-- a number of four bytes
 abbrev pub u32_of : List ℕ → Option ℕ
 u32_of word = number_of 4294967295 word
 
+-- a number of eight bytes
 abbrev pub u64_of : List ℕ → Option ℕ
 u64_of word = number_of 18446744073709551615 word
 
@@ -39,38 +40,45 @@ key_kind_of word =
 unfoldable pub stamp_of : List ℕ → Option ℕ
 stamp_of word = option_or (u64_of word) (stamp_code_of word)
 
--- a put, and a read, by a key of either kind
+-- a put by a key of either kind
 abbrev pub put_by : ℕ → ℕ → WrittenKey → ℤ → Content
 put_by node raw (Point bytes) value = put_point node raw bytes value
 put_by node raw (Tag bytes) value = put_tag node raw bytes value
 
+-- a read by a key of either kind
 abbrev pub read_by : ℕ → WrittenKey → Content
 read_by at (Point bytes) = read_point at bytes
 read_by at (Tag bytes) = read_tag at bytes
 
--- the records of the words behind the first, word by word
+-- the words behind `setup`
 abbrev pub set_up_of : (nodes keys lead backstep : List ℕ) → Option Content
 set_up_of nodes keys lead backstep =
     Some (λ n k l b. set_up n k l b) ⊛ u8_of nodes ⊛ key_kind_of keys ⊛ u32_of lead ⊛ u32_of backstep
 
+-- the words behind `note`
 abbrev pub note_of : (node raw : List ℕ) → Option Content
 note_of node raw = Some (λ n r. note n r) ⊛ u8_of node ⊛ u64_of raw
 
+-- the words behind `send`
 abbrev pub send_of : (node raw to message : List ℕ) → Option Content
 send_of node raw to message =
     Some (λ n r t m. send n r t m) ⊛ u8_of node ⊛ u64_of raw ⊛ u8_of to ⊛ u32_of message
 
+-- the words behind `receipt`
 abbrev pub receipt_of : (node raw message : List ℕ) → Option Content
 receipt_of node raw message =
     Some (λ n r m. receipt n r m) ⊛ u8_of node ⊛ u64_of raw ⊛ u32_of message
 
+-- the words behind `loss`
 abbrev pub loss_of : (message : List ℕ) → Option Content
 loss_of message = Some (λ m. loss m) ⊛ u32_of message
 
+-- the words behind `put`
 abbrev pub put_of : (node raw key value : List ℕ) → Option Content
 put_of node raw key value =
     Some put_by ⊛ u8_of node ⊛ u64_of raw ⊛ key_of key ⊛ signed_of value
 
+-- the words behind `read`
 abbrev pub read_of : (at key : List ℕ) → Option Content
 read_of at key = Some read_by ⊛ stamp_of at ⊛ key_of key
 

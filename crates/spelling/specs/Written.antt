@@ -14,7 +14,7 @@ IsLent (Point bytes) (lent.Point there) = there.now ≡ bytes
 IsLent (Tag bytes) (lent.Tag there) = there.now ≡ bytes
 IsLent written there = ⊥
 
--- what it says
+-- what a record says that a line spells
 abbrev pub written_content : Written → Content
 written_content (Keyless keyless) = content_of keyless
 written_content (Put node raw (Point bytes) value) = put_point node raw bytes value

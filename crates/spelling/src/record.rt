@@ -3,7 +3,8 @@ ghost use Rattle.std.specs.Prelude.{◌≡◌, map};
 ghost use Rattle.std.specs.Option.{option_map};
 ghost use Rattle.trace.specs.Contents.{content_of};
 ghost use Rattle.spelling.specs.Written.{IsLent, written_content};
-ghost use Rattle.spelling.specs.Records.{key_kind_of, loss_of, note_of, put_of, read_of, receipt_of, record_for, record_of, send_of, set_up_of, stamp_of, u8_of, u32_of, u64_of};
+ghost use Rattle.spelling.specs.Records.{key_kind_of, loss_of, note_of, put_of, read_of, receipt_of, record_for};
+ghost use Rattle.spelling.specs.Records.{record_of, send_of, set_up_of, stamp_of, u8_of, u32_of, u64_of};
 
 use crate::key::WrittenKey;
 use crate::verb::Verb;
@@ -196,14 +197,7 @@ fn record_by(verb: Verb, words: &[&[u8]]) -> Option<Written>
 }
 
 // The record that the words of a line spell.
-#[tactic(
-    auto,
-    using(
-        crate::proofs::Shapes::by_verb,
-        crate::proofs::Shapes::no_verb,
-        crate::proofs::Shapes::no_words
-    )
-)]
+#[tactic(auto, using(crate::proofs::Shapes::by_verb, crate::proofs::Shapes::no_verb, crate::proofs::Shapes::no_words))]
 pub fn record(words: &[&[u8]]) -> Option<Written>
     ensures { option_map written_content result ≡ record_of (map (λ word. word.now) words.now) }
 {

@@ -45,9 +45,6 @@ impl Verb {
     pub(crate) fn from_word(word: &[u8]) -> Option<Verb>
         ensures { result ≡ verb_of word.now }
     {
-        VERBS
-            .iter()
-            .copied()
-            .find(|verb| verb.as_bytes() == word)
+        VERBS.iter().copied().find(|verb| verb.as_bytes() == word)
     }
 }

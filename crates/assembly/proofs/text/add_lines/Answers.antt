@@ -16,8 +16,8 @@ pub loop-rest-preserved : goal.loop-rest-preserved
 loop-rest-preserved c =
     step c.args.text.now c.loop-rest.rest.now c.split_line.result.0.now c.split_line.result.1.now c.loop-rest.lines_before
     c.loop-rest.trace.items c.add_line.new.trace.items c.loop-rest.invariant c.split_line.ensures.line
-    c.split_line.ensures.behind (grind (arith, tests)) c.in_ok-add_line.field-0 c.if-not-branch.false c.in_ok-add_line.ensures.line
-    c.add_line.ensures.octets
+    c.split_line.ensures.behind (grind (arith, tests)) c.in_ok-add_line.field-0 c.if-not-branch.false
+    c.in_ok-add_line.ensures.line c.add_line.ensures.octets
 
 pub returns-clause-answer : goal.returns-clause-answer
 returns-clause-answer c =

@@ -1,7 +1,7 @@
 // The sheet's lines.
 
 use crate::puts::{Put, page_of};
-use crate::replayed::{NoPage, Replayed, replay};
+use crate::replayed::{NoPage, Replay, Replayed, replay};
 use naive::answers::Answer;
 use naive::stamp_rules::Stamp;
 use naive_format::records::{Key, Record};
@@ -127,7 +127,7 @@ impl Replayed {
     }
 
     // Adds the sheet at a stamp's code, or without one at the newest stamp at which a page is final.
-    pub fn add_sheet(
+    fn add_sheet(
         &self,
         text: &mut String,
         heap: Global,
@@ -161,6 +161,20 @@ impl Replayed {
     }
 }
 
+// Adds the sheet of a trace that was replayed, or the one line that stands in its place where there is no page.
+pub fn add_page_of(
+    text: &mut String,
+    heap: Global,
+    replay: &Replay,
+    stamp: Option<u64>,
+    closed: bool,
+) -> Result<(), AllocError> {
+    match replay {
+        Ok(replayed) => replayed.add_sheet(text, heap, stamp, closed),
+        Err(no_page) => add_no_page(text, *no_page),
+    }
+}
+
 // Adds the sheet of a trace at a stamp's code, or the one line that stands in its place where there is no page.
 pub fn add_page(
     text: &mut String,
@@ -169,8 +183,6 @@ pub fn add_page(
     stamp: Option<u64>,
     closed: bool,
 ) -> Result<(), AllocError> {
-    match replay(heap, trace)? {
-        Ok(replayed) => replayed.add_sheet(text, heap, stamp, closed),
-        Err(no_page) => add_no_page(text, no_page),
-    }
+    let replay = replay(heap, trace)?;
+    add_page_of(text, heap, &replay, stamp, closed)
 }

@@ -47,6 +47,9 @@ impl Replayed {
     }
 }
 
+// A trace that was replayed, or why there is no page of it.
+pub type Replay = Result<Replayed, NoPage>;
+
 // Replays the records, and gives the set-up if there is no fault in them.
 fn add_records(
     records: &mut Vec<(Record, Answer)>,
@@ -74,7 +77,7 @@ fn add_records(
     }
 }
 
-pub fn replay(heap: Global, trace: &[u8]) -> Result<Result<Replayed, NoPage>, AllocError> {
+pub fn replay(heap: Global, trace: &[u8]) -> Result<Replay, AllocError> {
     if trace.len() > LONGEST {
         return Ok(Err(NoPage::TooLong));
     }

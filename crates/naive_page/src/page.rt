@@ -82,7 +82,11 @@ impl Replayed {
 
     fn add_set_up(&self, text: &mut String) -> Result<(), AllocError> {
         let (boxes, lead, backstep) = (self.set_up.nodes, self.set_up.lead, self.set_up.backstep);
-        let keys = if self.set_up.key_kind == 0 { "points" } else { "tags" };
+        let keys = if self.set_up.key_kind == 0 {
+            "points"
+        } else {
+            "tags"
+        };
         writeln!(
             text,
             "set-up: boxes {boxes}, keys {keys}, lead {lead} ms, backstep {backstep} ms"
@@ -107,7 +111,10 @@ impl Replayed {
 
     // The boxes that may still report up to the stamp.
     fn add_late_boxes(&self, text: &mut String, code: u64) -> Result<(), AllocError> {
-        writeln!(text, "not final: 18, since a box may still report up to this stamp")?;
+        writeln!(
+            text,
+            "not final: 18, since a box may still report up to this stamp"
+        )?;
         for node in 0..self.set_up.nodes {
             let last = self.last_stamp(node);
             if last.code() >= code {
@@ -135,7 +142,11 @@ impl Replayed {
         closed: bool,
     ) -> Result<(), AllocError> {
         self.add_set_up(text)?;
-        let lowest = if closed { HIGHEST } else { self.lowest_last_code() };
+        let lowest = if closed {
+            HIGHEST
+        } else {
+            self.lowest_last_code()
+        };
         let code = stamp.unwrap_or(lowest);
         write!(text, "page: ")?;
         add_stamp(

@@ -29,7 +29,9 @@ impl Replayed {
         for (_, answer) in &self.records {
             match answer {
                 Answer::Event {
-                    node: other, stamp, ..
+                    node: other,
+                    stamp,
+                    ..
                 } if *other == node => last = *stamp,
                 _ => {}
             }

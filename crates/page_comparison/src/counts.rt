@@ -14,6 +14,8 @@ pub enum Count {
     Reported,
     NeverReported,
     Row,
+    // Of them, those with a stamp ahead of the clock.
+    RowAhead,
     NoRow,
     TooLong,
     Empty,
@@ -23,7 +25,7 @@ pub enum Count {
     Bad5,
 }
 
-const NAMES: [&str; 16] = [
+const NAMES: [&str; 17] = [
     "traces",
     "texts",
     "sheets",
@@ -33,6 +35,7 @@ const NAMES: [&str; 16] = [
     "boxes that are late",
     "boxes that have not reported",
     "rows",
+    "rows with a stamp ahead of the clock",
     "final, without a row",
     "too long",
     "empty",
@@ -59,7 +62,7 @@ const BEGINNINGS: [(&str, Count); 11] = [
 
 #[derive(Drop)]
 pub struct Counts {
-    counts: [u64; 16],
+    counts: [u64; 17],
 }
 
 // What a line of a sheet is counted as. A row alone begins with a capital letter, a digit or a hyphen.
@@ -82,9 +85,20 @@ fn count_of(line: &str) -> Option<Count> {
     None
 }
 
+// Whether the time of a row's stamp, the third word, is another than its clock, the last.
+fn is_ahead(row: &str) -> bool {
+    let (Some(stamp), Some(clock)) = (row.split(' ').nth(2), row.split(' ').last()) else {
+        return false;
+    };
+    match stamp.split_once('.') {
+        Some((time, _)) => time != clock,
+        None => false,
+    }
+}
+
 impl Counts {
     pub fn new() -> Counts {
-        Counts { counts: [0; 16] }
+        Counts { counts: [0; 17] }
     }
 
     pub fn add(&mut self, count: Count) {
@@ -96,8 +110,12 @@ impl Counts {
     pub fn add_text(&mut self, text: &str) {
         self.add(Count::Text);
         for line in text.lines() {
-            if let Some(count) = count_of(line) {
-                self.add(count);
+            let Some(count) = count_of(line) else {
+                continue;
+            };
+            self.add(count);
+            if matches!(count, Count::Row) && is_ahead(line) {
+                self.add(Count::RowAhead);
             }
         }
     }

@@ -98,8 +98,8 @@ impl PageComparison {
         Ok(None)
     }
 
-    // Prints what was asked for last, the trace, and where its texts part. An example that both write otherwise than it is written has
-    // no such place.
+    // Prints what was asked for last, the trace, and where its texts part. An example that both write otherwise than it is
+    // written has no such place.
     pub fn print_parting(&self, rt: &impl Print) -> io::Result<()> {
         match self.request.stamp {
             Some(code) => println!(rt; "at {}.{}", code / 65_536, code % 65_536)?,

@@ -20,8 +20,8 @@ const LISTED: &str = "00 02 00 000001F4 00000014
     01 00 00000000000003E8
     07 0000000003E80002 00000007";
 
-// Points put in no order, with values at the ends of their range. Three puts are refused: by a node that is not there, by a clock that
-// fell back, and of a tag.
+// Points put in no order, with values at the ends of their range. Three puts are refused: by a node that is not there, by a clock
+// that fell back, and of a tag.
 const VALUES: &str = "00 01 00 05265C00 00000000
     05 00 00000000000003E8 FFFFFFFF 00000005
     05 00 00000000000003E9 00000046 FFFFFFFB

@@ -37,9 +37,14 @@ fn read_code(replayed: &Replayed, behind: usize) -> Option<u64> {
     None
 }
 
-// The ends of their range; the lowest of the last stamps and three that were given, each with its neighbours; and one that was read at.
-fn codes_of(heap: Global, replayed: &Replayed, turn: usize) -> Result<Vec<u64>, AllocError> {
+// The ends of their range; the lowest of the last stamps and three that were given, each with its neighbours; and one that was
+// read at.
+fn codes_of(heap: Global, replay: &Replay, turn: usize) -> Result<Vec<u64>, AllocError> {
     let mut codes = Vec::new(heap);
+    let Ok(replayed) = replay else {
+        codes.push(ANY)?;
+        return Ok(codes);
+    };
     codes.push(0)?;
     codes.push(u64::MAX)?;
     add_with_neighbours(&mut codes, replayed.lowest_last_code())?;
@@ -67,15 +72,7 @@ pub fn requests_of(heap: Global, replay: &Replay, turn: usize) -> Result<Vec<Req
             closed,
         })?;
     }
-    let codes = match replay {
-        Ok(replayed) => codes_of(heap, replayed, turn)?,
-        Err(_) => {
-            let mut codes = Vec::new(heap);
-            codes.push(ANY)?;
-            codes
-        }
-    };
-    for (place, code) in codes.iter().enumerate() {
+    for (place, code) in codes_of(heap, replay, turn)?.iter().enumerate() {
         let stamp = Some(*code);
         requests.push(Request {
             stamp,

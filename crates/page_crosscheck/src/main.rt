@@ -1,5 +1,5 @@
-// Compares the inspector's page with a second, naive one, on written examples and on generated traces, each at several stamps, open and
-// closed. Two arguments, a number of traces and a seed, take the place of those that the gate has.
+// Compares the inspector's page with a second, naive one, on written examples and on generated traces, each at several stamps,
+// open and closed. Two arguments, a number of traces and a seed, take the place of those that the gate has.
 //
 // No function has a clause, as in `crosscheck`, which says why.
 #![tactic(auto)]

@@ -1,6 +1,5 @@
 // Sheets of one trace, each made twice.
 
-use crate::counts::{Count, Counts};
 use crate::examples::SHEETS;
 use crate::requests::requests_of;
 use made_traces::traces::write_trace;
@@ -9,6 +8,7 @@ use naive_page::replayed::{Replay, replay};
 use partings::{Parting, digits_of, first_parting};
 use sheet::request::Request;
 use sheet::sheet::sheet_text;
+use sheet_counts::{Count, Counts};
 use std::alloc::{AllocError, Global};
 use std::io;
 use written_examples::examples::write_bytes;

@@ -2,6 +2,5 @@
 #![tactic(auto)]
 
 pub mod comparison;
-mod counts;
 mod examples;
 mod requests;

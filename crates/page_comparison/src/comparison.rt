@@ -42,7 +42,11 @@ impl PageComparison {
     // Makes both texts of the trace that stands here, and answers whether they are the same.
     fn agrees(&mut self, replay: &Replay, request: Request) -> Result<bool, AllocError> {
         self.request = request;
-        self.page = sheet_text(self.heap, &self.trace, request)?;
+        self.page.clear();
+        match sheet_text(self.heap, &self.trace, request)? {
+            Ok(sheet) => self.page = sheet,
+            Err(no_page) => writeln!(self.page, "{no_page}")?,
+        }
         self.naive.clear();
         add_page_of(
             &mut self.naive,

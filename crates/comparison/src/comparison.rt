@@ -5,6 +5,7 @@ use made_traces::traces::write_trace;
 use naive::listing::add_listing as add_naive_listing;
 use naive::tally::{Count, Tally};
 use naive_format::encoder::add_record;
+use partings::{Parting, digits_of, first_parting};
 use std::alloc::{AllocError, Global};
 use std::io;
 use written_examples::examples::{self, EXAMPLES, PUT, PUT_RECORD};
@@ -17,45 +18,6 @@ pub struct Comparison {
     listed: String,
     naive: String,
     pub tally: Tally,
-}
-
-// The first line in which two texts differ: its number, and what each has there.
-struct Parting<'a> {
-    line: usize,
-    listed: &'a str,
-    naive: &'a str,
-}
-
-fn first_parting<'a>(listed: &'a str, naive: &'a str) -> Parting<'a> {
-    let mut ours = listed.lines();
-    let mut others = naive.lines();
-    for line in 1..listed.len().max(naive.len()) {
-        let (listed, naive) = (
-            ours.next().unwrap_or("nothing"),
-            others.next().unwrap_or("nothing"),
-        );
-        if listed != naive {
-            return Parting {
-                line,
-                listed,
-                naive,
-            };
-        }
-    }
-    Parting {
-        line: 0,
-        listed: "nothing",
-        naive: "nothing",
-    }
-}
-
-// Bytes in hexadecimal.
-fn digits_of(heap: Global, bytes: &[u8]) -> Result<String, AllocError> {
-    let mut digits = String::new(heap);
-    for byte in bytes {
-        write!(digits, "{byte:02X}")?;
-    }
-    Ok(digits)
 }
 
 impl Comparison {
@@ -129,11 +91,11 @@ impl Comparison {
         }
         let Parting {
             line,
-            listed,
-            naive,
+            first,
+            second,
         } = first_parting(self.listed.as_str(), self.naive.as_str());
-        println!(rt; "line {line}: listed {listed}")?;
-        println!(rt; "line {line}: naive {naive}")?;
+        println!(rt; "line {line}: listed {first}")?;
+        println!(rt; "line {line}: naive {second}")?;
         rt.println(digits_of(self.heap, &self.trace)?.as_str())
     }
 }

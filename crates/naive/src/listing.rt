@@ -8,7 +8,7 @@ use naive_format::decoder::{Found, record_at};
 use naive_format::records::{Key, Record, Sample, SetUp};
 use std::alloc::{AllocError, Global};
 
-const LONGEST: usize = 65_536;
+pub const LONGEST: usize = 65_536;
 
 const MOST_NODES: u8 = 16;
 
@@ -224,7 +224,7 @@ fn add_answer(text: &mut String, number: usize, answer: &Answer) -> Result<(), A
 
 // The state of a listing that goes on.
 #[derive(Drop)]
-struct Run {
+pub struct Run {
     history: History,
     set_up: Option<SetUp>,
     accepted: usize,
@@ -235,13 +235,23 @@ struct Run {
 
 // What a record comes to: a numbered line, or the end of the listing.
 #[derive(Clone, Copy)]
-enum Outcome {
+pub enum Outcome {
     Line(Answer),
     Bad(u8),
 }
 
 impl Run {
-    fn take(&mut self, record: &Record) -> Result<Outcome, AllocError> {
+    pub fn new(heap: Global) -> Run {
+        Run {
+            history: History::new(heap),
+            set_up: None,
+            accepted: 0,
+            refused: 0,
+            unsettled: Vec::new(heap),
+        }
+    }
+
+    pub fn take(&mut self, record: &Record) -> Result<Outcome, AllocError> {
         let Some(set_up) = self.set_up else {
             return Ok(match opening(record) {
                 Ok(set_up) => {
@@ -336,13 +346,7 @@ pub fn add_listing(
         tally.add(Count::TooLong);
         return writeln!(text, "too long");
     }
-    let mut run = Run {
-        history: History::new(heap),
-        set_up: None,
-        accepted: 0,
-        refused: 0,
-        unsettled: Vec::new(heap),
-    };
+    let mut run = Run::new(heap);
     add_records(text, &mut run, trace, tally)?;
     tally.add(Count::End);
     let (accepted, refused) = (run.accepted, run.refused);

@@ -11,7 +11,7 @@ use Rattle.trace_history.specs.Trace.{bound_of}
 use Rattle.trace_run.specs.SetUp.{SetUpNumbers}
 use Rattle.trace_run.specs.declared.setup.Keys.{Keys}
 use Rattle.trace_run.specs.declared.setup.Keys.TheVariants.{Points, Tags}
-use Rattle.sheet_lines.specs.Numbers.{code_text, stamp_text, units_text}
+use Rattle.sheet_lines.specs.Numbers.{code_text, timestamp_text, units_text}
 use Rattle.sheet_lines.specs.declared.puts.Puts.{Puts}
 
 -- the kind of keys
@@ -96,7 +96,7 @@ abbrev pub box_line : ℕ → Timestamp → List ℕ
 box_line node last =
     (if code_of last == 0
     then codes "box " ++ (decimal node ++ codes " has not reported\n")
-    else codes "box " ++ (decimal node ++ (codes " last reported " ++ (stamp_text last ++ codes "\n"))))
+    else codes "box " ++ (decimal node ++ (codes " last reported " ++ (timestamp_text last ++ codes "\n"))))
 
 -- of a node, if its last stamp is below the page's
 abbrev pub held_back_line : ℕ → ℕ → Timestamp → List ℕ

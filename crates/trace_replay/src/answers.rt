@@ -7,7 +7,7 @@ ghost use Rattle.trace_replay.specs.Traced.{first_state};
 ghost use Rattle.trace_run.specs.Calls.{calls_of};
 ghost use Rattle.trace_run.specs.SetUp.{set_up_numbers};
 
-use crate::stores::{Ending, StoredKey};
+use crate::stores::{Inquiry, StoredKey};
 use replay::call::{Answer, Call};
 use std::alloc::{AllocError, Global};
 use trace::records::Record;
@@ -24,11 +24,11 @@ fn answers_to<K: StoredKey>(
         IfOk result (λ answers. map answer_numbers answers.items
         ≡ trace_answers K.cmp (set_up_numbers setup).backstep start calls.items) }
 {
-    let ending = Ending {
+    let inquiry = Inquiry {
         closes: false,
         questions: Vec::new(heap),
     };
-    K::replay_calls(heap, setup, calls, ending)
+    K::replay_calls(heap, setup, calls, inquiry)
 }
 
 // The same to the calls of the records behind a set-up.

@@ -7,7 +7,7 @@ ghost use Rattle.trace_replay.specs.Page.{AsksForPage, IsOfCut, IsPaged, cut_pag
 ghost use Rattle.trace_run.specs.Calls.{calls_of};
 ghost use Rattle.trace_run.specs.SetUp.{set_up_numbers};
 
-use crate::stores::{Ending, PLACES, StoredKey, blank};
+use crate::stores::{Inquiry, PLACES, StoredKey, blank};
 use refusals::refusal::Refusal;
 use replay::call::{Answer, Call, Question};
 use std::alloc::{AllocError, Global};
@@ -58,7 +58,7 @@ fn paged_by<K: StoredKey>(
         (map answer_numbers paged.answers.items) (shown (result_map (λ rows. rows.items) paged.page))) }
 {
     let questions = page_question(heap, stamp)?;
-    let mut answers = K::replay_calls(heap, setup, calls, Ending { closes, questions })?;
+    let mut answers = K::replay_calls(heap, setup, calls, Inquiry { closes, questions })?;
     let page = page_of(answers.pop());
     Ok(Paged { answers, page })
 }

@@ -23,7 +23,7 @@ pub(crate) const PLACES: usize = 1024;
 
 // What is asked behind the calls: whether the recorder is closed first, and the questions.
 #[derive(Drop)]
-pub struct Ending<K> {
+pub struct Inquiry<K> {
     pub closes: bool,
     pub questions: Vec<Question<K>>,
 }
@@ -46,16 +46,16 @@ fn answers_to<K: TraceKey, S: Listable<K> + Drop>(
     setup: SetUp,
     store: EmptyStore<K, S>,
     calls: Vec<Call<K>>,
-    ending: Ending<K>,
+    inquiry: Inquiry<K>,
 ) -> Result<Vec<Answer<K>>, AllocError>
     requires { HasPlaces store }
     ensures { IfOk result (λ answers. IsTraced K.cmp (set_up_numbers setup)
-        calls.items ending.closes ending.questions.items (map answer_numbers answers.items)) }
+        calls.items inquiry.closes inquiry.questions.items (map answer_numbers answers.items)) }
 {
     let run = Run {
         calls,
-        closes: ending.closes,
-        questions: ending.questions,
+        closes: inquiry.closes,
+        questions: inquiry.questions,
     };
     let bank = TraceClocks::new(setup.backstep);
     let mut answers = Vec::new(heap);
@@ -73,10 +73,10 @@ pub trait StoredKey: TraceKey {
         heap: Global,
         setup: SetUp,
         calls: Vec<Call<Self>>,
-        ending: Ending<Self>,
+        inquiry: Inquiry<Self>,
     ) -> Result<Vec<Answer<Self>>, AllocError>
         ensures { IfOk result (λ answers. IsTraced Self.cmp (set_up_numbers setup)
-            calls.items ending.closes ending.questions.items (map answer_numbers answers.items)) };
+            calls.items inquiry.closes inquiry.questions.items (map answer_numbers answers.items)) };
 }
 
 impl StoredKey for Point {
@@ -90,15 +90,15 @@ impl StoredKey for Point {
         heap: Global,
         setup: SetUp,
         calls: Vec<Call<Point>>,
-        ending: Ending<Point>,
+        inquiry: Inquiry<Point>,
     ) -> Result<Vec<Answer<Point>>, AllocError>
         ensures { IfOk result (λ answers. IsTraced point_cmp (set_up_numbers setup)
-            calls.items ending.closes ending.questions.items (map answer_numbers answers.items)) }
+            calls.items inquiry.closes inquiry.questions.items (map answer_numbers answers.items)) }
     {
         let mut places = [blank(Point::any()); PLACES];
         let store = SortedRun::new(&mut places).unwrap();
         let store = EmptyStore::new(store).unwrap();
-        answers_to(heap, setup, store, calls, ending)
+        answers_to(heap, setup, store, calls, inquiry)
     }
 }
 
@@ -113,14 +113,14 @@ impl StoredKey for Tag {
         heap: Global,
         setup: SetUp,
         calls: Vec<Call<Tag>>,
-        ending: Ending<Tag>,
+        inquiry: Inquiry<Tag>,
     ) -> Result<Vec<Answer<Tag>>, AllocError>
         ensures { IfOk result (λ answers. IsTraced tag_cmp (set_up_numbers setup)
-            calls.items ending.closes ending.questions.items (map answer_numbers answers.items)) }
+            calls.items inquiry.closes inquiry.questions.items (map answer_numbers answers.items)) }
     {
         let mut nodes = [Node::new(blank(Tag::any())); PLACES];
         let store = SearchTree::new(&mut nodes).unwrap();
         let store = EmptyStore::new(store).unwrap();
-        answers_to(heap, setup, store, calls, ending)
+        answers_to(heap, setup, store, calls, inquiry)
     }
 }

@@ -23,12 +23,7 @@ fn add_box(text: &mut String, node: u8, last: Stamp) -> Result<(), AllocError>
 }
 
 // The same, if the page waits for it.
-fn add_if_held_back(
-    text: &mut String,
-    stamp: u64,
-    node: u8,
-    last: Stamp,
-) -> Result<(), AllocError>
+fn add_if_held_back(text: &mut String, stamp: u64, node: u8, last: Stamp) -> Result<(), AllocError>
     ensures { OnOk result (string_bytes text.new
         ≡ string_bytes text.old ++ held_back_line stamp node (stamp_of last)) }
 {

@@ -24,7 +24,9 @@ fn add_fields<K: NamedKey>(
     let stamp = Code(version.stamp);
     let node = version.node;
     let &Event {
-        number, reading, ..
+        number,
+        reading,
+        ..
     } = event;
     writeln!(text, " {value} {stamp} {node} {number} {reading}")
 }

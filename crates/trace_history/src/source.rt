@@ -13,7 +13,5 @@ pub fn source_of<'a, K: Copy>(events: &'a [Event<K>], version: &Version<K>) -> O
     ensures { option_map event_numbers (option_copied result)
         ≡ find (is_source version.now) (map event_numbers events.now) }
 {
-    events
-        .iter()
-        .find(|event| event.node == version.node && event.stamp.code() == version.stamp)
+    events.iter().find(|event| event.node == version.node && event.stamp.code() == version.stamp)
 }

@@ -142,10 +142,12 @@ module _ {K : Type 0} (order : K → K → Ordering) (total : IsTotalOrder order
             let before = told order setup calls in
             let history : run_history order setup calls closes questions ≡ page_history order setup calls closes stamp =
             ap (run_history order setup calls closes) asks.one
-            ∙ ap (λ entries. before ++ ((if closes then Closed ∷ [] else []) ++ entries)) cut.entries in
-            (tt, record {
-              answers_are = parts.front;
-              page_is = cut.page_is;
-              written = subst (IsHistory order (history_setup setup)) history traced.written;
-              lawful = subst (IsLawful order (history_setup setup)) history traced.lawful;
-            })
+            ∙ ap (λ entries. before ++ ((if closes then Closed ∷ [] else []) ++ entries)) cut.entries in (
+              tt,
+              record {
+                answers_are = parts.front;
+                page_is = cut.page_is;
+                written = subst (IsHistory order (history_setup setup)) history traced.written;
+                lawful = subst (IsLawful order (history_setup setup)) history traced.lawful;
+              },
+            )

@@ -7,7 +7,7 @@ ghost use Rattle.trace_replay.specs.Page.{AsksForPage, IsOfCut, IsPaged, cut_pag
 ghost use Rattle.trace_run.specs.Calls.{calls_of};
 ghost use Rattle.trace_run.specs.SetUp.{set_up_numbers};
 
-use crate::stores::{Inquiry, PLACES, StoredKey, blank};
+use crate::stores::{Inquiry, StoredKey};
 use refusals::refusal::Refusal;
 use replay::call::{Answer, Call, Question};
 use std::alloc::{AllocError, Global};
@@ -39,8 +39,7 @@ fn page_of<K: Drop>(answer: Option<Answer<K>>) -> Result<Vec<Version<K>>, Refusa
 fn page_question<K: StoredKey>(heap: Global, stamp: u64) -> Result<Vec<Question<K>>, AllocError>
     ensures { IfOk result (λ questions. AsksForPage stamp questions.items) }
 {
-    let mut rows = Vec::new(heap);
-    rows.resize(PLACES, blank(K::any()))?;
+    let rows = K::blank_rows(heap)?;
     let mut questions = Vec::with_capacity(heap, 1)?;
     questions.push(Question::Cut { stamp, rows })?;
     Ok(questions)

@@ -1,10 +1,11 @@
 // Replays calls on a recorder with trace clocks, and with the store of its kind of keys.
-ghost use Rattle.std.specs.Prelude.{◌≡◌, IfOk, map, pos};
+ghost use Rattle.std.specs.Prelude.{◌≡◌, IfOk, length, map, pos};
 ghost use Rattle.replay.specs.Calls.{answer_numbers};
-ghost use Rattle.trace_replay.specs.Traced.{HasPlaces, IsTraced};
+ghost use Rattle.trace_replay.specs.Traced.{HasPlaces, IsTraced, places};
 ghost use Rattle.trace_run.specs.SetUp.{set_up_numbers};
 
 use clocks::trace_clocks::TraceClocks;
+use keys::kind::KeyKind;
 use keys::point::Point;
 use keys::tag::Tag;
 use recorder::empty_store::EmptyStore;
@@ -19,7 +20,7 @@ use trace_run::calls::TraceKey;
 use trace_run::setup::SetUp;
 
 // For so many versions there is room.
-pub(crate) const PLACES: usize = 1024;
+const PLACES: usize = 1024;
 
 // What is asked behind the calls: whether the recorder is closed first, and the questions.
 #[derive(Drop)]
@@ -29,7 +30,7 @@ pub struct Inquiry<K> {
 }
 
 // What stands in a place that has no version yet: any key will do.
-pub(crate) fn blank<K>(key: K) -> Version<K>
+fn blank<K>(key: K) -> Version<K>
     ensures { result ≡ record { key = key; stamp = 0; node = 0; value = pos 0 } }
 {
     Version {
@@ -38,6 +39,20 @@ pub(crate) fn blank<K>(key: K) -> Version<K>
         node: 0,
         value: 0,
     }
+}
+
+// Some tag.
+fn any_tag() -> Tag {
+    Tag::try_from(b"-\0\0\0\0\0\0\0\0\0\0\0\0\0\0\0").unwrap()
+}
+
+// As many rows as there are places, each this one.
+fn rows_of<K: KeyKind>(heap: Global, row: Version<K>) -> Result<Vec<Version<K>>, AllocError>
+    ensures { IfOk result (λ rows. length rows.items ≡ places) }
+{
+    let mut rows = Vec::new(heap);
+    rows.resize(PLACES, row)?;
+    Ok(rows)
 }
 
 // What a recorder with trace clocks and this store answers to these calls, and to what is asked behind them.
@@ -65,8 +80,9 @@ fn answers_to<K: TraceKey, S: Listable<K> + Drop>(
 
 // A kind of a trace's keys, which has its store: points a sorted run, tags a search tree.
 pub trait StoredKey: TraceKey {
-    // Some key.
-    fn any() -> Self;
+    // A row for each place.
+    fn blank_rows(heap: Global) -> Result<Vec<Version<Self>>, AllocError>
+        ensures { IfOk result (λ rows. length rows.items ≡ places) };
 
     // What a fresh recorder answers to these calls, and to what is asked behind them.
     fn replay_calls(
@@ -82,8 +98,8 @@ pub trait StoredKey: TraceKey {
 impl StoredKey for Point {
     ghost use Rattle.trace_replay.specs.Orders.{point_cmp};
 
-    fn any() -> Point {
-        Point(0)
+    fn blank_rows(heap: Global) -> Result<Vec<Version<Point>>, AllocError> {
+        rows_of(heap, blank(Point(0)))
     }
 
     fn replay_calls(
@@ -95,7 +111,7 @@ impl StoredKey for Point {
         ensures { IfOk result (λ answers. IsTraced point_cmp (set_up_numbers setup)
             calls.items inquiry.closes inquiry.questions.items (map answer_numbers answers.items)) }
     {
-        let mut places = [blank(Point::any()); PLACES];
+        let mut places = [blank(Point(0)); PLACES];
         let store = SortedRun::new(&mut places).unwrap();
         let store = EmptyStore::new(store).unwrap();
         answers_to(heap, setup, store, calls, inquiry)
@@ -105,8 +121,8 @@ impl StoredKey for Point {
 impl StoredKey for Tag {
     ghost use Rattle.keys.specs.Tag.{tag_cmp};
 
-    fn any() -> Tag {
-        Tag::try_from(b"-\0\0\0\0\0\0\0\0\0\0\0\0\0\0\0").unwrap()
+    fn blank_rows(heap: Global) -> Result<Vec<Version<Tag>>, AllocError> {
+        rows_of(heap, blank(any_tag()))
     }
 
     fn replay_calls(
@@ -118,7 +134,7 @@ impl StoredKey for Tag {
         ensures { IfOk result (λ answers. IsTraced tag_cmp (set_up_numbers setup)
             calls.items inquiry.closes inquiry.questions.items (map answer_numbers answers.items)) }
     {
-        let mut nodes = [Node::new(blank(Tag::any())); PLACES];
+        let mut nodes = [Node::new(blank(any_tag())); PLACES];
         let store = SearchTree::new(&mut nodes).unwrap();
         let store = EmptyStore::new(store).unwrap();
         answers_to(heap, setup, store, calls, inquiry)

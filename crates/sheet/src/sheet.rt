@@ -1,5 +1,5 @@
 // The sheet of a trace.
-ghost use Rattle.std.specs.Prelude.{◌≡◌, IfOk, OnOk, map, string_bytes};
+ghost use Rattle.std.specs.Prelude.{◌≡◌, ◌<◌, IfOk, IsOk, OnOk, length, map, string_bytes};
 ghost use Rattle.page_law.specs.Inspected.{IsInspected};
 ghost use Rattle.trace.specs.Contents.{content_of};
 ghost use Rattle.trace_run.specs.Reading.{ending_of};
@@ -129,7 +129,7 @@ fn start_of<'a, 't>(records: &'a Records<'t>) -> Result<Start<'a, 't>, NoPage>
     }
 }
 
-// The sheet of a trace, or why it has no page. The only failure is want of memory.
+// The sheet of a trace, or why it has no page. The only failure is want of memory; a trace that is too long needs none.
 pub fn sheet_text(
     heap: Global,
     trace: &[u8],
@@ -137,6 +137,7 @@ pub fn sheet_text(
 ) -> Result<Result<String, NoPage>, AllocError>
     ensures sheet { IfOk result (λ answer. sheet_answer answer ≡ sheet_of trace.now request.closed request.stamp) }
     ensures law { OnOk result (SheetIsInspected trace.now request.closed request.stamp) }
+    ensures room { 65536 < length trace.now → IsOk result }
 {
     if trace.len() > LONGEST {
         return Ok(Err(NoPage::TooLong));

@@ -1,5 +1,5 @@
 // What nodes reported last.
-ghost use Rattle.std.specs.Prelude.{◌≡◌, map};
+ghost use Rattle.std.specs.Prelude.{◌≡◌, ◌==◌, if◌then◌else◌, map};
 ghost use Rattle.history.specs.History.{last_stamp as last_stamp_of};
 ghost use Rattle.stamps.specs.Stamp.{stamp_of};
 ghost use Rattle.trace_history.specs.Shown.{events_in};
@@ -8,15 +8,21 @@ ghost use Rattle.trace_history.specs.Trace.{newest_final as newest_final_of};
 use crate::events::Event;
 use stamps::stamp::Stamp;
 
+// A node's last stamp behind an event: the event's, if it is the node's.
+fn later_stamp<K: Copy>(last: Stamp, event: &Event<K>, node: u8) -> Stamp
+    ensures { stamp_of result
+        ≡ (if «event».now.node == node then stamp_of «event».now.stamp else stamp_of last) }
+{
+    if event.node == node { event.stamp } else { last }
+}
+
 // The stamp of the node's last event, 0.0 if it has none.
 pub fn last_stamp<K: Copy>(events: &[Event<K>], node: u8) -> Stamp
     ensures { stamp_of result ≡ last_stamp_of (events_in events.now) node }
 {
     let mut last = Stamp::zero();
     for event in events {
-        if event.node == node {
-            last = event.stamp;
-        }
+        last = later_stamp(last, event, node);
     }
     last
 }

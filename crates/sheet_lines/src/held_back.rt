@@ -16,7 +16,7 @@ fn add_box(text: &mut String, node: u8, last: Stamp) -> Result<(), AllocError>
     ensures { OnOk result (string_bytes text.new ≡ string_bytes text.old ++ box_line node (stamp_of last)) }
 {
     if last.code() == 0 {
-        writeln!(text, "box {node} has not reported")
+        writeln!(text, "box {node} has reported nothing that was accepted")
     } else {
         writeln!(text, "box {node} last reported {last}")
     }
@@ -56,7 +56,7 @@ fn add_refused(text: &mut String, refusal: Refusal) -> Result<(), AllocError>
     let number = refusal.number();
     writeln!(
         text,
-        "not final: {number}, since a box may still report up to this stamp"
+        "not final: refused with {number}, since a box may still report at or below this stamp"
     )
 }
 

@@ -68,10 +68,10 @@ fn add_final(text: &mut String, closes: bool) -> Result<(), AllocError>
     if closes {
         writeln!(
             text,
-            "final: the recorder is closed, and no box will report any more"
+            "final: the recorder is closed, as asked, and no box will report any more"
         )
     } else {
-        writeln!(text, "final: every box has reported up to this stamp")
+        writeln!(text, "final: no box can report at or below this stamp any more")
     }
 }
 

@@ -23,7 +23,8 @@ use Rattle.replay.specs.declared.call.Question.{Question}
 use Rattle.replay.specs.declared.call.Question.TheVariants as question
 use Rattle.store.specs.declared.version.Version.{Version}
 use Rattle.trace_replay.specs.Machine.{clocks_of, trace_answers}
-use Rattle.trace_replay.specs.Page.{AsksForPage, IsOfCut, IsPaged, cut_page, is_final, page_answer, page_history, rows_at}
+use Rattle.trace_replay.specs.Page.{IsPaged, is_final, page_answer, page_history, rows_at}
+use Rattle.trace_replay.specs.Within.{AsksForPage, IsOfCut, cut_page}
 use Rattle.trace_replay.specs.Traced.{IsTraced, first_state, history_setup, last_state, places, run_history, told}
 use Rattle.trace_replay.proofs.Room.{rows_fit}
 use Rattle.trace_run.specs.SetUp.{SetUpNumbers}

@@ -1,4 +1,4 @@
-// Replays calls on a recorder with trace clocks, and with the store of its kind of keys.
+// Replays runs on a recorder with trace clocks, and with the store of its kind of keys.
 ghost use Rattle.std.specs.Prelude.{◌≡◌, IfOk, length, map, pos};
 ghost use Rattle.replay.specs.Calls.{answer_numbers};
 ghost use Rattle.trace_replay.specs.Traced.{HasPlaces, IsTraced, places};
@@ -9,7 +9,7 @@ use keys::kind::KeyKind;
 use keys::point::Point;
 use keys::tag::Tag;
 use recorder::empty_store::EmptyStore;
-use replay::call::{Answer, Call, Question};
+use replay::call::Answer;
 use replay::replay::{Run, replay};
 use search_tree::{Node, SearchTree};
 use sorted_run::SortedRun;
@@ -21,13 +21,6 @@ use trace_run::setup::SetUp;
 
 // For so many versions there is room.
 const PLACES: usize = 1024;
-
-// What is asked behind the calls: whether the recorder is closed first, and the questions.
-#[derive(Drop)]
-pub struct Inquiry<K> {
-    pub closes: bool,
-    pub questions: Vec<Question<K>>,
-}
 
 // What stands in a place that has no version yet: any key will do.
 fn blank<K>(key: K) -> Version<K>
@@ -55,23 +48,17 @@ fn rows_of<K: KeyKind>(heap: Global, row: Version<K>) -> Result<Vec<Version<K>>,
     Ok(rows)
 }
 
-// What a recorder with trace clocks and this store answers to these calls, and to what is asked behind them.
+// What a recorder with trace clocks and this store answers to a run.
 fn answers_to<K: TraceKey, S: Listable<K> + Drop>(
     heap: Global,
     setup: SetUp,
     store: EmptyStore<K, S>,
-    calls: Vec<Call<K>>,
-    inquiry: Inquiry<K>,
+    run: Run<K>,
 ) -> Result<Vec<Answer<K>>, AllocError>
     requires { HasPlaces store }
     ensures { IfOk result (λ answers. IsTraced K.cmp (set_up_numbers setup)
-        calls.items inquiry.closes inquiry.questions.items (map answer_numbers answers.items)) }
+        run.calls.items run.closes run.questions.items (map answer_numbers answers.items)) }
 {
-    let run = Run {
-        calls,
-        closes: inquiry.closes,
-        questions: inquiry.questions,
-    };
     let bank = TraceClocks::new(setup.backstep);
     let mut answers = Vec::new(heap);
     replay(setup.settings, bank, store, run, &mut answers)?;
@@ -84,15 +71,14 @@ pub trait StoredKey: TraceKey {
     fn blank_rows(heap: Global) -> Result<Vec<Version<Self>>, AllocError>
         ensures { IfOk result (λ rows. length rows.items ≡ places) };
 
-    // What a fresh recorder answers to these calls, and to what is asked behind them.
-    fn replay_calls(
+    // What a fresh recorder answers to a run.
+    fn replay_run(
         heap: Global,
         setup: SetUp,
-        calls: Vec<Call<Self>>,
-        inquiry: Inquiry<Self>,
+        run: Run<Self>,
     ) -> Result<Vec<Answer<Self>>, AllocError>
         ensures { IfOk result (λ answers. IsTraced Self.cmp (set_up_numbers setup)
-            calls.items inquiry.closes inquiry.questions.items (map answer_numbers answers.items)) };
+            run.calls.items run.closes run.questions.items (map answer_numbers answers.items)) };
 }
 
 impl StoredKey for Point {
@@ -102,19 +88,18 @@ impl StoredKey for Point {
         rows_of(heap, blank(Point(0)))
     }
 
-    fn replay_calls(
+    fn replay_run(
         heap: Global,
         setup: SetUp,
-        calls: Vec<Call<Point>>,
-        inquiry: Inquiry<Point>,
+        run: Run<Point>,
     ) -> Result<Vec<Answer<Point>>, AllocError>
         ensures { IfOk result (λ answers. IsTraced point_cmp (set_up_numbers setup)
-            calls.items inquiry.closes inquiry.questions.items (map answer_numbers answers.items)) }
+            run.calls.items run.closes run.questions.items (map answer_numbers answers.items)) }
     {
         let mut places = [blank(Point(0)); PLACES];
         let store = SortedRun::new(&mut places).unwrap();
         let store = EmptyStore::new(store).unwrap();
-        answers_to(heap, setup, store, calls, inquiry)
+        answers_to(heap, setup, store, run)
     }
 }
 
@@ -125,18 +110,17 @@ impl StoredKey for Tag {
         rows_of(heap, blank(any_tag()))
     }
 
-    fn replay_calls(
+    fn replay_run(
         heap: Global,
         setup: SetUp,
-        calls: Vec<Call<Tag>>,
-        inquiry: Inquiry<Tag>,
+        run: Run<Tag>,
     ) -> Result<Vec<Answer<Tag>>, AllocError>
         ensures { IfOk result (λ answers. IsTraced tag_cmp (set_up_numbers setup)
-            calls.items inquiry.closes inquiry.questions.items (map answer_numbers answers.items)) }
+            run.calls.items run.closes run.questions.items (map answer_numbers answers.items)) }
     {
         let mut nodes = [Node::new(blank(any_tag())); PLACES];
         let store = SearchTree::new(&mut nodes).unwrap();
         let store = EmptyStore::new(store).unwrap();
-        answers_to(heap, setup, store, calls, inquiry)
+        answers_to(heap, setup, store, run)
     }
 }

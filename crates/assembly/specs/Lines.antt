@@ -44,7 +44,7 @@ contents_of_line Nothing = Some []
 contents_of_line (Record written) = Some (written_content written ∷ [])
 contents_of_line Unknown = None
 
--- a trace gained the bytes of these records; it gained nothing where a line was not understood
+-- a trace gained the bytes of these records (where a line is not understood the trace is given up)
 abbrev pub AddsLine : Option (List Content) → List ℕ → List ℕ → Bool → Type 0
 AddsLine None was after understood = understood ≡ false
 AddsLine (Some records) was after understood =

@@ -5,7 +5,7 @@ ghost use Rattle.trace.specs.Contents.{content_of, encoding_of};
 ghost use Rattle.trace.specs.Ranges.{IsInRange};
 ghost use Rattle.assembly.specs.Lines.{contents_of_line, is_line_feed, is_silent, records_of, spelled_by, words_of, AddsLine};
 
-use spelling::record::{Written, record};
+use spelling::record::{Written, record_from};
 use std::alloc::{AllocError, Global};
 use trace::records::Record;
 
@@ -73,7 +73,7 @@ fn line_of(words: &[&[u8]]) -> Line
     if says_nothing(words) {
         return Line::Nothing;
     }
-    match record(words) {
+    match record_from(words) {
         Some(written) => Line::Record(written),
         None => Line::Unknown,
     }

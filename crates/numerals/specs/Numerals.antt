@@ -32,14 +32,14 @@ code_of None counter = None
 code_of (Some time) None = None
 code_of (Some time) (Some counter) = Some (time * 65536 + counter)
 
--- the point, 46
-abbrev pub is_point : ℕ → Bool
-is_point byte = byte == 46
+-- the dot, 46
+abbrev pub is_dot : ℕ → Bool
+is_dot byte = byte == 46
 
--- the code of the stamp that a word is, if it is a time of 48 bits, a point and a counter of 16
+-- the code of the time of 48 bits, the dot and the counter of 16 that a word is (a time of 0 with a counter is the stamp of no event)
 unfoldable pub stamp_code_of : List ℕ → Option ℕ
-stamp_code_of word = option_and_then at_point (position is_point word)
+stamp_code_of word = option_and_then at_dot (position is_dot word)
   where
-    at_point : ℕ → Option ℕ
-    at_point place =
+    at_dot : ℕ → Option ℕ
+    at_dot place =
         code_of (number_of 281474976710655 (take place word)) (number_of 65535 (drop (place + 1) word))

@@ -4,7 +4,7 @@
 ghost use Rattle.std.specs.Prelude.{◌≡◌, ◌<◌, ◌≤◌, IfSome, length, position};
 ghost use Rattle.std.specs.Char.{is_ascii_digit};
 ghost use Rattle.std.specs.List.{list_all};
-ghost use Rattle.numerals.specs.Numerals.{is_numeral, is_point, number_of, signed_of, stamp_code_of};
+ghost use Rattle.numerals.specs.Numerals.{is_numeral, is_dot, number_of, signed_of, stamp_code_of};
 
 use std::str;
 
@@ -28,9 +28,9 @@ pub fn is_number(word: &[u8]) -> bool
     !word.is_empty() && is_digits(word)
 }
 
-// The place of the first point.
-fn point_of(word: &[u8]) -> Option<usize>
-    ensures place { result ≡ position is_point word.now }
+// The place of the first dot.
+fn dot_place(word: &[u8]) -> Option<usize>
+    ensures place { result ≡ position is_dot word.now }
     ensures within { IfSome result (λ place. place < length word.now) }
 {
     word.iter().position(|byte| *byte == b'.')
@@ -77,8 +77,8 @@ pub fn signed(word: &[u8]) -> Option<i32>
 pub fn stamp_code(word: &[u8]) -> Option<u64>
     ensures { result ≡ stamp_code_of word.now }
 {
-    let point = point_of(word)?;
-    let time = number(&word[..point], MOST_TIME)?;
-    let counter = number(&word[point + 1..], COUNTERS - 1)?;
+    let dot = dot_place(word)?;
+    let time = number(&word[..dot], MOST_TIME)?;
+    let counter = number(&word[dot + 1..], COUNTERS - 1)?;
     Some(time * COUNTERS + counter)
 }

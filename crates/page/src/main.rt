@@ -4,9 +4,15 @@
 use page_program::arguments::request_of;
 use page_program::printing::print_page;
 use std::process::ExitCode;
+use std::rt::Env;
 use std::{env, io};
 
+// The arguments, if each is a text.
+fn words(rt: &(impl Env + AllocGlobal)) -> io::Result<Vec<String>> {
+    env::args(rt)?.skip(1).collect(rt.alloc())
+}
+
 fn main(rt: HostRuntime) -> io::Result<ExitCode> {
-    let words = env::args(&rt)?.skip(1).collect::<Vec<String>>(rt.alloc())?;
-    print_page(request_of(&words), rt.stdin(), &mut rt.stdout(), rt.alloc())
+    let request = words(&rt).ok().and_then(|words| request_of(&words));
+    print_page(request, rt.stdin(), &mut rt.stdout(), rt.alloc())
 }

@@ -41,8 +41,8 @@ read_up_to remaining input taken before read inner limit none got =
 
 -- What is shown of the bytes that were read is shown of all that the input still had.
 module _ (r : Request) (old new : Option (List ℕ)) where
-  shown_of : (code : ExitCode) (read trace : List ℕ) → read ≡ take 65537 trace → ShowsPage (Some r) read old new code
-      → ShowsPage (Some r) trace old new code
+  shown_of : (code : ExitCode) (read trace : List ℕ) → read ≡ take 65537 trace → ShowsPage r read old new code
+      → ShowsPage r trace old new code
   shown_of code read trace is shows =
       let same : start_of read ≡ start_of trace = ap start_of is ∙ start_of_first trace in (
         subst (λ start. Prints (answer_text (sheet_of_start start r.closed r.stamp)) (status_of (sheet_of_start start r.closed r.stamp))
@@ -55,7 +55,7 @@ module _ (r : Request) (old new : Option (List ℕ)) where
       → IfSome remaining (λ trace. read ≡ take 65537 trace) → answer ≡ sheet_of read r.closed r.stamp
       → SheetIsInspected read r.closed r.stamp
       → IfOk result (λ code. Prints (answer_text answer) (status_of answer) old new code)
-      → IfOk result (λ code. IfSome remaining (λ trace. ShowsPage (Some r) trace old new code))
+      → IfOk result (λ code. IfSome remaining (λ trace. ShowsPage r trace old new code))
   shown_of_all (Err e) read remaining answer got is law prints = tt
   shown_of_all (Ok code) read None answer got is law prints = tt
   shown_of_all (Ok code) read (Some trace) answer got is law prints =

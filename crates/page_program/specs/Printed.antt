@@ -1,5 +1,5 @@
 -- What the program prints.
-use Rattle.std.specs.Prelude.{◌≡◌, ℕ, List, [], ◌∷◌, ◌++◌, Some, None, Ok, Err, Option, Result, codes}
+use Rattle.std.specs.Prelude.{◌≡◌, ℕ, List, [], ◌∷◌, ◌++◌, Ok, Err, Option, Result, codes}
 use Rattle.std.specs.Io.KnownBytes.{Appends}
 use Rattle.std.specs.declared.process.ExitCode.{ExitCode}
 use Rattle.sheet.specs.NoPage.{Why, no_page_text}
@@ -25,10 +25,9 @@ pub record Prints (text : List ℕ) (status : ℕ) (old new : Option (List ℕ))
   pub output : Appends old new text
   pub status_is : code.status ≡ status
 
--- What the program does with its arguments and a trace: it prints the sheet, or why there is none; and the law of whole runs says
--- of the page what it says of every page. Where the arguments ask for nothing it prints how it is called.
-abbrev pub ShowsPage : Option Request → List ℕ → (old new : Option (List ℕ)) → ExitCode → Type 0
-ShowsPage None trace old new code = Prints usage_text 1 old new code
-ShowsPage (Some r) trace old new code =
+-- What the program does with a trace: it prints the sheet, or why there is none; and the law of whole runs says of the page what it
+-- says of every page.
+abbrev pub ShowsPage : Request → List ℕ → (old new : Option (List ℕ)) → ExitCode → Type 0
+ShowsPage r trace old new code =
     Prints (answer_text (sheet_of trace r.closed r.stamp)) (status_of (sheet_of trace r.closed r.stamp)) old new code
     × SheetIsInspected trace r.closed r.stamp

@@ -1,5 +1,5 @@
 // Prints a page, or why there is none.
-ghost use Rattle.std.specs.Prelude.{◌≡◌, IfOk, IfSome, take};
+ghost use Rattle.std.specs.Prelude.{◌≡◌, IfOk, IfSome, None, take};
 ghost use Rattle.sheet.specs.Answers.{sheet_answer};
 ghost use Rattle.page_program.specs.Printed.{Prints, ShowsPage, answer_text, status_of, usage_text};
 
@@ -53,8 +53,10 @@ pub fn print_page<R: Read + Drop, W: Write>(
     output: &mut W,
     heap: Global,
 ) -> io::Result<ExitCode>
-    ensures { IfOk result (λ code. IfSome (R.remaining input) (λ trace.
-        ShowsPage request trace (W.contents output.old) (W.contents output.new) code)) }
+    ensures usage { request ≡ None → IfOk result (λ code.
+        Prints usage_text 1 (W.contents output.old) (W.contents output.new) code) }
+    ensures page { IfSome request (λ r. IfOk result (λ code. IfSome (R.remaining input) (λ trace.
+        ShowsPage r trace (W.contents output.old) (W.contents output.new) code))) }
 {
     let Some(request) = request else {
         return write_usage(output);

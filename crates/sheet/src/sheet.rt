@@ -16,7 +16,7 @@ use sheet_lines::names::NamedKey;
 use std::alloc::{AllocError, Global};
 use trace::records::Record;
 use trace_history::events::events_of;
-use trace_history::last::newest_final;
+use trace_history::last::lowest_last;
 use trace_replay::answers::answers_for;
 use trace_replay::page::page_for;
 use trace_run::reading::{Bad, Records, read_records};
@@ -25,7 +25,8 @@ use trace_run::setup::{Keys, SetUp};
 // The longest trace that has a page, in bytes.
 pub const LONGEST: usize = 65_536;
 
-// The stamp that is asked for, or the newest with a final page: for that the trace is replayed once more.
+// The stamp that is asked for, or the newest with a final page: of a closed recorder the highest of all, and for that of an open
+// one the trace is replayed once more.
 fn stamp_of<K: NamedKey>(
     heap: Global,
     setup: SetUp,
@@ -39,9 +40,12 @@ fn stamp_of<K: NamedKey>(
     if let Some(stamp) = request.stamp {
         return Ok(stamp);
     }
+    if request.closed {
+        return Ok(u64::MAX);
+    }
     let answers = answers_for::<K>(heap, setup, records)?;
     let events = events_of(heap, records, &answers)?;
-    Ok(newest_final(request.closed, &events, setup.settings.nodes()))
+    Ok(lowest_last(&events, setup.settings.nodes()))
 }
 
 // The sheet of the page at a stamp.

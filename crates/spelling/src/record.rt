@@ -102,14 +102,14 @@ fn key_kind(word: &[u8]) -> Option<u8>
 
 // A stamp's code: a number, or TIME.COUNTER.
 #[tactic(auto, unfolding(crate::specs::Records::stamp_of))]
-fn stamp(word: &[u8]) -> Option<u64>
+fn stamp_from(word: &[u8]) -> Option<u64>
     ensures { result ≡ stamp_of word.now }
 {
     number_u64(word).or_else(|| stamp_code(word))
 }
 
 // The records of the words behind the first, one function for each kind.
-fn set_up(nodes: &[u8], keys: &[u8], lead: &[u8], backstep: &[u8]) -> Option<Written>
+fn set_up_from(nodes: &[u8], keys: &[u8], lead: &[u8], backstep: &[u8]) -> Option<Written>
     ensures { option_map written_content result
         ≡ set_up_of nodes.now keys.now lead.now backstep.now }
 {
@@ -121,7 +121,7 @@ fn set_up(nodes: &[u8], keys: &[u8], lead: &[u8], backstep: &[u8]) -> Option<Wri
     }))
 }
 
-fn note(node: &[u8], raw: &[u8]) -> Option<Written>
+fn note_from(node: &[u8], raw: &[u8]) -> Option<Written>
     ensures { option_map written_content result ≡ note_of node.now raw.now }
 {
     Some(Written::Keyless(Record::Note {
@@ -130,7 +130,7 @@ fn note(node: &[u8], raw: &[u8]) -> Option<Written>
     }))
 }
 
-fn send(node: &[u8], raw: &[u8], to: &[u8], message: &[u8]) -> Option<Written>
+fn send_from(node: &[u8], raw: &[u8], to: &[u8], message: &[u8]) -> Option<Written>
     ensures { option_map written_content result ≡ send_of node.now raw.now to.now message.now }
 {
     Some(Written::Keyless(Record::Send {
@@ -141,7 +141,7 @@ fn send(node: &[u8], raw: &[u8], to: &[u8], message: &[u8]) -> Option<Written>
     }))
 }
 
-fn receipt(node: &[u8], raw: &[u8], message: &[u8]) -> Option<Written>
+fn receipt_from(node: &[u8], raw: &[u8], message: &[u8]) -> Option<Written>
     ensures { option_map written_content result ≡ receipt_of node.now raw.now message.now }
 {
     Some(Written::Keyless(Record::Receipt {
@@ -151,7 +151,7 @@ fn receipt(node: &[u8], raw: &[u8], message: &[u8]) -> Option<Written>
     }))
 }
 
-fn loss(message: &[u8]) -> Option<Written>
+fn loss_from(message: &[u8]) -> Option<Written>
     ensures { option_map written_content result ≡ loss_of message.now }
 {
     Some(Written::Keyless(Record::Loss {
@@ -159,7 +159,7 @@ fn loss(message: &[u8]) -> Option<Written>
     }))
 }
 
-fn put(node: &[u8], raw: &[u8], key: &[u8], value: &[u8]) -> Option<Written>
+fn put_from(node: &[u8], raw: &[u8], key: &[u8], value: &[u8]) -> Option<Written>
     ensures { option_map written_content result ≡ put_of node.now raw.now key.now value.now }
 {
     Some(Written::Put {
@@ -170,11 +170,11 @@ fn put(node: &[u8], raw: &[u8], key: &[u8], value: &[u8]) -> Option<Written>
     })
 }
 
-fn read(at: &[u8], key: &[u8]) -> Option<Written>
+fn read_from(at: &[u8], key: &[u8]) -> Option<Written>
     ensures { option_map written_content result ≡ read_of at.now key.now }
 {
     Some(Written::Read {
-        at: stamp(at)?,
+        at: stamp_from(at)?,
         key: WrittenKey::from_word(key)?,
     })
 }
@@ -185,20 +185,20 @@ fn record_by(verb: Verb, words: &[&[u8]]) -> Option<Written>
         ≡ record_for verb (map (λ word. word.now) words.now) }
 {
     match (verb, words) {
-        (Verb::SetUp, [nodes, keys, lead, backstep]) => set_up(nodes, keys, lead, backstep),
-        (Verb::Note, [node, raw]) => note(node, raw),
-        (Verb::Send, [node, raw, to, message]) => send(node, raw, to, message),
-        (Verb::Receipt, [node, raw, message]) => receipt(node, raw, message),
-        (Verb::Loss, [message]) => loss(message),
-        (Verb::Put, [node, raw, key, value]) => put(node, raw, key, value),
-        (Verb::Read, [at, key]) => read(at, key),
+        (Verb::SetUp, [nodes, keys, lead, backstep]) => set_up_from(nodes, keys, lead, backstep),
+        (Verb::Note, [node, raw]) => note_from(node, raw),
+        (Verb::Send, [node, raw, to, message]) => send_from(node, raw, to, message),
+        (Verb::Receipt, [node, raw, message]) => receipt_from(node, raw, message),
+        (Verb::Loss, [message]) => loss_from(message),
+        (Verb::Put, [node, raw, key, value]) => put_from(node, raw, key, value),
+        (Verb::Read, [at, key]) => read_from(at, key),
         _ => None,
     }
 }
 
 // The record that the words of a line spell.
 #[tactic(auto, using(crate::proofs::Shapes::by_verb, crate::proofs::Shapes::no_verb, crate::proofs::Shapes::no_words))]
-pub fn record(words: &[&[u8]]) -> Option<Written>
+pub fn record_from(words: &[&[u8]]) -> Option<Written>
     ensures { option_map written_content result ≡ record_of (map (λ word. word.now) words.now) }
 {
     let (first, rest) = words.split_first()?;

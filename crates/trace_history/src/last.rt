@@ -3,7 +3,7 @@ ghost use Rattle.std.specs.Prelude.{◌≡◌, ◌==◌, if◌then◌else◌, ma
 ghost use Rattle.history.specs.History.{last_stamp as last_stamp_of};
 ghost use Rattle.stamps.specs.Stamp.{stamp_of};
 ghost use Rattle.trace_history.specs.Shown.{events_in};
-ghost use Rattle.trace_history.specs.Trace.{newest_final as newest_final_of};
+ghost use Rattle.trace_history.specs.Trace.{lowest_last as lowest_last_of};
 
 use crate::events::Event;
 use stamps::stamp::Stamp;
@@ -27,14 +27,11 @@ pub fn last_stamp<K: Copy>(events: &[Event<K>], node: u8) -> Stamp
     last
 }
 
-// The newest stamp code at which a page is final, of a recorder of so many nodes.
-pub fn newest_final<K: Copy>(closes: bool, events: &[Event<K>], nodes: u8) -> u64
-    ensures { result ≡ newest_final_of closes (events_in events.now) nodes }
+// The lowest of the last stamps of so many nodes, as a code: the newest with a final page of an open recorder.
+pub fn lowest_last<K: Copy>(events: &[Event<K>], nodes: u8) -> u64
+    ensures { result ≡ lowest_last_of (events_in events.now) nodes }
 {
     let mut lowest = u64::MAX;
-    if closes {
-        return lowest;
-    }
     for node in 0..nodes {
         lowest = lowest.min(last_stamp(events, node).code());
     }

@@ -3,8 +3,8 @@ use Rattle.sheet.specs.Answers.{sheet_answer}
 use Rattle.page_program.proofs.Longest.{shown_of_all}
 use Rattle.page_program.proofs.printing.print_page.Goals as goal
 
-pub returns : goal.returns
-returns g c =
+pub returns-clause-page : goal.returns-clause-page
+returns-clause-page g c =
     let remaining = g.R.Read.remaining c.args.input in
     let read = subst (λ bytes. IfSome remaining (λ trace. bytes ≡ take 65537 trace)) (sym c.deref.ensures.value)
     c.in_ok-trace.ensures in

@@ -29,33 +29,33 @@ none verb v ws is h = none_at v ws h ∙ as_read verb v ws is
 
 pub returns-in-SetUp-len4 : goal.returns-in-SetUp-len4
 returns-in-SetUp-len4 c =
-    c.set_up.ensures ∙ set_up_at _ c.args.words.now (omega arith)
+    c.set_up_from.ensures ∙ set_up_at _ c.args.words.now (omega arith)
     ∙ as_read c.args.verb SetUp c.args.words.now c.in-SetUp-len4.is-0
 
 pub returns-in-Note-len2 : goal.returns-in-Note-len2
 returns-in-Note-len2 c =
-    c.note.ensures ∙ note_at _ c.args.words.now (omega arith) ∙ as_read c.args.verb Note c.args.words.now c.in-Note-len2.is-0
+    c.note_from.ensures ∙ note_at _ c.args.words.now (omega arith) ∙ as_read c.args.verb Note c.args.words.now c.in-Note-len2.is-0
 
 pub returns-in-Send-len4 : goal.returns-in-Send-len4
 returns-in-Send-len4 c =
-    c.send.ensures ∙ send_at _ c.args.words.now (omega arith) ∙ as_read c.args.verb Send c.args.words.now c.in-Send-len4.is-0
+    c.send_from.ensures ∙ send_at _ c.args.words.now (omega arith) ∙ as_read c.args.verb Send c.args.words.now c.in-Send-len4.is-0
 
 pub returns-in-Receipt-len3 : goal.returns-in-Receipt-len3
 returns-in-Receipt-len3 c =
-    c.receipt.ensures ∙ receipt_at _ c.args.words.now (omega arith)
+    c.receipt_from.ensures ∙ receipt_at _ c.args.words.now (omega arith)
     ∙ as_read c.args.verb Receipt c.args.words.now c.in-Receipt-len3.is-0
 
 pub returns-in-Loss-len1 : goal.returns-in-Loss-len1
 returns-in-Loss-len1 c =
-    c.loss.ensures ∙ loss_at _ c.args.words.now (omega arith) ∙ as_read c.args.verb Loss c.args.words.now c.in-Loss-len1.is-0
+    c.loss_from.ensures ∙ loss_at _ c.args.words.now (omega arith) ∙ as_read c.args.verb Loss c.args.words.now c.in-Loss-len1.is-0
 
 pub returns-in-Put-len4 : goal.returns-in-Put-len4
 returns-in-Put-len4 c =
-    c.put.ensures ∙ put_at _ c.args.words.now (omega arith) ∙ as_read c.args.verb Put c.args.words.now c.in-Put-len4.is-0
+    c.put_from.ensures ∙ put_at _ c.args.words.now (omega arith) ∙ as_read c.args.verb Put c.args.words.now c.in-Put-len4.is-0
 
 pub returns-in-Read-len2 : goal.returns-in-Read-len2
 returns-in-Read-len2 c =
-    c.read.ensures ∙ read_at _ c.args.words.now (omega arith) ∙ as_read c.args.verb Read c.args.words.now c.in-Read-len2.is-0
+    c.read_from.ensures ∙ read_at _ c.args.words.now (omega arith) ∙ as_read c.args.verb Read c.args.words.now c.in-Read-len2.is-0
 
 pub returns-in_default : goal.returns-in_default
 returns-in_default c =

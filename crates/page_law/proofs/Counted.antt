@@ -1,5 +1,5 @@
 -- No more puts are accepted than there are records of puts.
-use Rattle.std.proofs.Common.{◌≡◌, ℕ, ◌+◌, ◌≤◌, List, [], ◌∷◌, length, map, Some, None, Ok, Err, Option, Result, refl, arith}
+use Rattle.std.proofs.Common.{◌≡◌, ℕ, ◌+◌, ◌-◌, ◌≤◌, List, [], ◌∷◌, length, map, Some, None, Ok, Err, Option, Result, refl, arith}
 use Rattle.std.specs.List.{cons_option}
 use Rattle.std.specs.Option.{option_to_list}
 use Rattle.history.specs.Events.{Event, Note, Put, Receipt, Send, What, puts, version_of}
@@ -42,7 +42,10 @@ module _ {K : Type 0} where
       → count (option_to_list (event_by number deed a)) ≤ deed_puts deed
   event_counted number None a = omega arith
   event_counted number (Some deed) (EventAnswer (Err refusal)) = omega arith
-  event_counted number (Some deed) (EventAnswer (Ok event)) = omega (arith, what_counted _ deed.what)
+  event_counted number (Some deed) (EventAnswer (Ok event)) =
+      let e : Event K =
+          record { node = deed.node; reading = event.stamp.time - event.drift; stamp = event.stamp; what = deed.what } in
+      omega (arith, what_counted e deed.what)
   event_counted number (Some deed) (LossAnswer answer) = omega arith
   event_counted number (Some deed) (ReadAnswer answer) = omega arith
   event_counted number (Some deed) (CutAnswer answer rows) = omega arith
@@ -56,12 +59,12 @@ module _ {K : Type 0} where
 
   one_more : (found : Option (Version K)) (vs : List (Version K))
       → length (cons_option found vs) ≡ length (cons_option found []) + length vs
-  one_more None vs = refl
-  one_more (Some v) vs = refl
+  one_more None vs = omega arith
+  one_more (Some v) vs = omega arith
 
   counted_first : (found : Option (Numbered K)) (others : List (Numbered K))
       → count (cons_option found others) ≡ count (option_to_list found) + count others
-  counted_first None others = refl
+  counted_first None others = omega arith
   counted_first (Some e) others = one_more (version_of e.event e.event.what) (puts (map (λ e. e.event) others))
 
   module _ (form : KeyForm K) where

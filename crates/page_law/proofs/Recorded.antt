@@ -63,6 +63,9 @@ module _ {K : Type 0} (form : KeyForm K) (order : K → K → Ordering) (backste
   abbrev clocks : (ℕ → ℕ) → Meaning
   clocks = clocks_of backstep
 
+  same_reading : (d e : Numbered K) → Some d ≡ Some e → d.event.reading ≡ e.event.reading
+  same_reading d e is = let same : d ≡ e = cc is in ap (λ (n : Numbered K). n.event.reading) same
+
   -- a put that was accepted has its raw number as its reading
   put_read_by : (s : State (ℕ → ℕ) K) (sample : Sample) (key : K) (value : ℤ) (number : ℕ) (e : Numbered K)
       (answer : Result StampedNumbers ℕ) → put_answer clocks s sample ≡ answer
@@ -75,8 +78,7 @@ module _ {K : Type 0} (form : KeyForm K) (order : K → K → Ordering) (backste
           ≡ Ok event = grind (arith, nat_tests, is) in
       let read = reading_by (own_stamp last) (clock_answer clocks s sample) event (own_ahead last) answered in
       let raw : event.stamp.time - event.drift ≡ sample.raw.0 = read ∙ ap (λ r. result_unwrap_or r 0) clock in
-      let same : event.stamp.time - event.drift ≡ e.event.reading = cc some in
-      sym raw ∙ same
+      sym raw ∙ same_reading _ e some
 
   -- so of a call that is a put
   put_read : (s : State (ℕ → ℕ) K) (c : Call K) (number : ℕ) (e : Numbered K)

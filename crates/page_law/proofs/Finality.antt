@@ -28,7 +28,7 @@ use Rattle.page_law.proofs.Last.{AreLast, AreStill, in_neither, no_close, still}
 use Rattle.page_law.proofs.Told.{events_listed}
 
 -- a stamp that not all have reached is above one of them
-below_one : (code : ℕ) (last : List Timestamp) → none_below last code ≡ false
+pub below_one : (code : ℕ) (last : List Timestamp) → none_below last code ≡ false
     → (i : ℕ) × (i < length last) × (code_of (stamp_at last i) < code)
 below_one code [] is = absurd (cc is)
 below_one code (t ∷ last) is = elim (cases_lt (code_of t) code) [
@@ -39,11 +39,14 @@ below_one code (t ∷ last) is = elim (cases_lt (code_of t) code) [
 ]
 
 -- before the first event
-fresh_last : (K : Type 0) (nodes : ℕ) → AreLast {K = K} (no_stamps nodes) []
-fresh_last K nodes node =
+pub fresh_stamp : (nodes node : ℕ) → stamp_at (no_stamps nodes) node ≡ zero_stamp
+fresh_stamp nodes node =
     let past = get_or_past (no_stamps nodes) node zero_stamp in
     let there = get_or-replicate nodes node zero_stamp zero_stamp in
     grind (arith, past, there, length-replicate nodes zero_stamp)
+
+fresh_last : (K : Type 0) (nodes : ℕ) → AreLast {K = K} (no_stamps nodes) []
+fresh_last K nodes node = fresh_stamp nodes node
 
 module _ {K : Type 0} where
   -- the close and the cut are no events

@@ -2,12 +2,14 @@
 use Rattle.std.proofs.Common.{◌≡◌, ℕ, ◌+◌, ◌<◌, ◌≤◌, inl, inr, Bool, true, false, List, [], ◌∷◌, ◌++◌, length, refl, sym}
 use Rattle.std.proofs.Common.{subst, arith}
 use Rattle.std.specs.Prelude.{if◌then◌else◌}
+use Rattle.std.specs.Cmp.{IsTotalOrder}
 use Rattle.std.specs.declared.cmp.Ordering.{Ordering}
 use Rattle.history.specs.Events.{Event, event_at, puts}
 use Rattle.history.specs.History.{Closed, Cut, Entry, IsHistory}
 use Rattle.history.specs.Law.{Cuts, Drift, IsLawful}
 use Rattle.history.proofs.Lists.{in_append}
 use Rattle.history.proofs.Places.{NodesRise}
+use Rattle.keys.specs.Order.{IsKeyOrder}
 use Rattle.store.specs.Newest.{IsIn}
 use Rattle.store.specs.Page.{IsPage}
 use Rattle.store.specs.declared.version.Version.{Version}
@@ -18,8 +20,11 @@ use Rattle.trace_replay.specs.Traced.{history_setup, told}
 use Rattle.trace_run.specs.Calls.{KeyForm, calls_of}
 use Rattle.trace_run.specs.SetUp.{SetUpNumbers}
 use Rattle.page_law.specs.Inspected.{IsFinal, IsInspected, IsRight, PagesAreInspected, events, history, rows}
+use Rattle.page_law.specs.Stays.{PageStays}
+use Rattle.page_law.proofs.Counted.{counted}
 use Rattle.page_law.proofs.Finality.{events_are, final, held_back, newest, settled}
 use Rattle.page_law.proofs.Sources.{from, rise}
+use Rattle.page_law.proofs.Stays.{final_pages_stay}
 
 -- the cut of a final page is in the history
 cut_in : {K : Type 0} (before close : List (Entry K)) (final : Bool) (stamp : ℕ) (shown : List (Version K)) → final ≡ true
@@ -30,7 +35,8 @@ cut_in before close false stamp shown is = absurd (cc is)
 
 module _ {K : Type 0} (form : KeyForm K) (order : K → K → Ordering) (setup : SetUpNumbers) (ms : List Content) (closes : Bool)
     (stamp : ℕ) (written : IsHistory order (history_setup setup) (history form order setup ms closes stamp))
-    (lawful : IsLawful order (history_setup setup) (history form order setup ms closes stamp)) where
+    (lawful : IsLawful order (history_setup setup) (history form order setup ms closes stamp))
+    (stays : PageStays form order setup ms stamp) where
   abbrev the_events : List (Event K)
   the_events = events form order setup ms
 
@@ -62,14 +68,15 @@ module _ {K : Type 0} (form : KeyForm K) (order : K → K → Ordering) (setup :
     lawful = lawful;
     events_are = events_are form order setup ms closes stamp;
     bound = bound;
-    final = (settled form order setup ms stamp stamp closes, final form order setup ms stamp stamp closes);
+    counted = counted form 2 ms _;
+    final = λ at. (settled form order setup ms stamp at closes, final form order setup ms stamp at closes);
     held_back = held_back form order setup ms stamp closes;
     right = right;
-    settled = settled form order setup ms stamp (newest_final closes the_events setup.settings.nodes) closes
-        (newest form order setup ms closes).final;
+    stays = stays;
     newest = newest form order setup ms closes;
   }
 
-pub pages_are_inspected : {K : Type 0} (form : KeyForm K) (order : K → K → Ordering) → PagesAreInspected form order
-pages_are_inspected form order setup ms closes stamp answers answered paged =
-    inspected form order setup ms closes stamp paged.written paged.lawful
+pub pages_are_inspected : {K : Type 0} (form : KeyForm K) (order : K → K → Ordering) → IsTotalOrder order → IsKeyOrder order
+    → PagesAreInspected form order
+pages_are_inspected form order total law setup ms closes stamp answers answered paged =
+    inspected form order setup ms closes stamp paged.written paged.lawful (final_pages_stay form order total law setup ms stamp)

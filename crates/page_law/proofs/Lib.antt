@@ -3,4 +3,7 @@ mod Last
 mod Finality
 mod Recorded
 mod Sources
+mod Counted
+mod Onward
+pub mod Stays
 pub mod Inspected

@@ -31,14 +31,14 @@ use Rattle.trace_replay.specs.Machine.{behind_call, clocks_of, highs_after, trac
 use Rattle.trace_run.specs.Calls.{KeyForm, answers_left, call_of, calls_of}
 
 -- the clock's reading of an event is the stamp's time less the drift
-reading_by : (rule : ℕ → Timestamp) (clock : Result ℕ ℕ) (event : StampedNumbers)
+pub reading_by : (rule : ℕ → Timestamp) (clock : Result ℕ ℕ) (event : StampedNumbers)
     → ((reading : ℕ) → reading ≤ (rule reading).time)
     → at_reading (λ reading. event_answer (rule reading) reading) clock ≡ Ok event
     → event.stamp.time - event.drift ≡ result_unwrap_or clock 0
 reading_by rule (Ok reading) event ahead is = grind (arith, nat_tests, is, ahead reading)
 reading_by rule (Err refusal) event ahead is = absurd (cc is)
 
-own_ahead : (last : Timestamp) (reading : ℕ) → reading ≤ (own_stamp last reading).time
+pub own_ahead : (last : Timestamp) (reading : ℕ) → reading ≤ (own_stamp last reading).time
 own_ahead last reading = grind arith
 
 receipt_ahead : (last sent : Timestamp) (reading : ℕ) → reading ≤ (receipt_stamp last sent reading).time

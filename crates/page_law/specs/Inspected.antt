@@ -14,12 +14,14 @@ use Rattle.store.specs.Page.{IsPage}
 use Rattle.store.specs.declared.version.Version.{Version}
 use Rattle.trace.specs.Contents.{Content}
 use Rattle.trace_history.specs.Events.{Numbered}
+use Rattle.trace_history.specs.Puts.{put_records}
 use Rattle.trace_history.specs.Source.{is_source}
 use Rattle.trace_history.specs.Trace.{bound_of, highest_code, newest_final, trace_events}
 use Rattle.trace_replay.specs.Page.{IsPaged, is_final, page_history, rows_at}
 use Rattle.trace_replay.specs.Traced.{history_setup}
 use Rattle.trace_run.specs.Calls.{KeyForm, call_of, calls_of}
 use Rattle.trace_run.specs.SetUp.{SetUpNumbers}
+use Rattle.page_law.specs.Stays.{PageStays}
 
 -- The records of a trace behind its set-up.
 module _ {K : Type 0} (form : KeyForm K) (order : K → K → Ordering) (setup : SetUpNumbers) (ms : List Content) where
@@ -31,21 +33,23 @@ module _ {K : Type 0} (form : KeyForm K) (order : K → K → Ordering) (setup :
   abbrev pub HasPut : Version K → Numbered K → Type 0
   HasPut v e = version_of e.event e.event.what ≡ Some v
 
-  -- The record of this number puts a version's value under its key, at its node. (The set-up has the number 1.)
-  pub record IsPutBy (v : Version K) (number : ℕ) : Type 0 where
+  -- The record of an event puts a version's value under its key, at its node, with the event's reading as its raw number. (The
+  -- set-up has the number 1.)
+  pub record IsPutBy (v : Version K) (e : Numbered K) : Type 0 where
     pub earlier : List Content
     pub content : Content
     pub later : List Content
     pub place : ms ≡ earlier ++ content ∷ later
-    pub count : number ≡ length earlier + 2
+    pub count : e.number ≡ length earlier + 2
     pub sample : Sample
     pub node : sample.node ≡ v.node
+    pub reading : sample.raw.0 ≡ e.event.reading
     pub calls : call_of form content ≡ Ok (call.Put sample v.key v.value)
 
   -- A version comes from this event: it put it, no other did, and the search for the first event of its node and stamp finds it.
   pub record IsFrom (v : Version K) (e : Numbered K) : Type 0 where
     pub put : HasPut v e
-    pub recorded : IsPutBy v e.number
+    pub recorded : IsPutBy v e
     pub no_other : (other : Numbered K) → IsIn other (trace_events form order setup ms) → HasPut v other → other ≡ e
     pub found : find (is_source v) (trace_events form order setup ms) ≡ Some e
 
@@ -89,15 +93,18 @@ module _ {K : Type 0} (form : KeyForm K) (order : K → K → Ordering) (setup :
       -- no stamp's time is above its event's reading by more than the bound
       pub bound : (j : ℕ) → j < length events
           → (event_at events j).stamp.time ≤ (event_at events j).reading + bound_of setup
-      -- the page is final exactly if its stamp is settled
-      pub final : IsFinal closes stamp ↔ IsSettled (history_setup setup) (history closes stamp) stamp
+      -- no more puts were accepted than the trace has
+      pub counted : length (puts events) ≤ put_records ms
+      -- a page at any stamp is final exactly if that stamp is settled
+      pub final : (at : ℕ) → IsFinal closes at ↔ IsSettled (history_setup setup) (history closes stamp) at
       -- of an open recorder, it is not final exactly if a node holds it back
       pub held_back : is_final order setup (calls_of form ms) closes stamp ≡ false
           ↔ (closes ≡ false) × ((node : ℕ) × HoldsBack stamp node)
       -- what is final is right
       pub right : IsFinal closes stamp → IsRight closes stamp
-      -- the newest stamp at which a page is final is settled in this history, and no later one has a final page
-      pub settled : IsSettled (history_setup setup) (history closes stamp) (newest_final closes events setup.settings.nodes)
+      -- whatever comes later, a page that is final of the open recorder stays as it is
+      pub stays : PageStays form order setup ms stamp
+      -- the newest stamp at which a page is final
       pub newest : IsNewestFinal (newest_final closes events setup.settings.nodes)
 
 -- Whatever page is answered, the law says this of it.

@@ -1,0 +1,14 @@
+// What comes later leaves a final page as it is.
+ghost use Rattle.std.specs.Prelude.{◌≡◌, true};
+ghost use Rattle.page_law.specs.Stays.{FinalPagesStay};
+
+use trace_run::calls::TraceKey;
+
+// A page that is final of an open recorder is final behind any later records too, accepted or refused, and behind a close; and it
+// has the same rows.
+pub fn final_pages_stay<K: TraceKey>() -> bool
+    ensures answer { result ≡ true }
+    ensures stays { FinalPagesStay K.form K.cmp }
+{
+    true
+}

@@ -1,10 +1,9 @@
 // Sheets of one trace, each made twice.
 
-use crate::examples::SHEETS;
-use crate::requests::requests_of;
 use made_traces::traces::write_trace;
 use naive_page::page::add_page_of;
 use naive_page::replayed::{Replay, replay};
+use page_requests::requests::requests_of;
 use partings::{Parting, digits_of, first_parting};
 use sheet::request::Request;
 use sheet::sheet::sheet_text;
@@ -12,6 +11,7 @@ use sheet_counts::{Count, Counts};
 use std::alloc::{AllocError, Global};
 use std::io;
 use written_examples::examples::write_bytes;
+use written_sheets::examples::SHEETS;
 
 // A trace and two texts of its page, which the next ones overwrite; what was asked for; and what was met in all of them.
 #[derive(Drop)]

@@ -2,5 +2,3 @@
 #![tactic(auto)]
 
 pub mod comparison;
-mod examples;
-mod requests;

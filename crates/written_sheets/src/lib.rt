@@ -1,0 +1,4 @@
+// Sheets that are written out, to hold others against.
+#![tactic(auto)]
+
+pub mod examples;

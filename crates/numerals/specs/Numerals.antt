@@ -36,7 +36,7 @@ code_of (Some time) (Some counter) = Some (time * 65536 + counter)
 abbrev pub is_dot : ℕ → Bool
 is_dot byte = byte == 46
 
--- the code of the time of 48 bits, the dot and the counter of 16 that a word is (a time of 0 with a counter is the stamp of no event)
+-- the code of a word that is a time of 48 bits, a dot and a counter of 16 (0 with a counter is the stamp of no event)
 unfoldable pub stamp_code_of : List ℕ → Option ℕ
 stamp_code_of word = option_and_then at_dot (position is_dot word)
   where

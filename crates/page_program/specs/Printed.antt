@@ -25,8 +25,8 @@ pub record Prints (text : List ℕ) (status : ℕ) (old new : Option (List ℕ))
   pub output : Appends old new text
   pub status_is : code.status ≡ status
 
--- What the program does with a trace: it prints the sheet, or why there is none; and the law of whole runs says of the page what it
--- says of every page.
+-- What the program does with a trace: it prints the sheet, or why there is none; and the law of whole runs says of the page what
+-- it says of every page.
 abbrev pub ShowsPage : Request → List ℕ → (old new : Option (List ℕ)) → ExitCode → Type 0
 ShowsPage r trace old new code =
     Prints (answer_text (sheet_of trace r.closed r.stamp)) (status_of (sheet_of trace r.closed r.stamp)) old new code

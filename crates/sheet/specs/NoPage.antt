@@ -9,7 +9,7 @@ pub data Why : Type 0 where
   too_long no_record : Why
   refused_at : ℕ → ℕ → Why
 
--- the code's word for it
+-- as numbers
 abbrev pub no_page_numbers : NoPage → Why
 no_page_numbers no_page.TooLong = too_long
 no_page_numbers no_page.Empty = no_record

@@ -50,7 +50,7 @@ pub record Start : Type 0 where
   pub setup : SetUpNumbers
   pub records : List Content
 
--- with a first record that sets up so, or is refused
+-- where the first record was answered so, these are behind it, and they end so
 abbrev pub start_by_set_up : Result SetUpNumbers ℕ → List Content → Ending → Result Start Why
 start_by_set_up (Ok setup) ms complete = Ok (record { setup = setup; records = ms })
 start_by_set_up (Ok setup) ms (refused refusal offset) = Err (refused_at refusal offset)
@@ -71,6 +71,7 @@ abbrev pub sheet_of_start : Result Start Why → Bool → Option ℕ → Result 
 sheet_of_start (Ok b) closed asked = Ok (sheet_by b.setup.keys b.setup b.records closed asked)
 sheet_of_start (Err why) closed asked = Err why
 
+-- the same of its bytes
 abbrev pub sheet_of : List ℕ → Bool → Option ℕ → Result (List ℕ) Why
 sheet_of bs closed asked = sheet_of_start (start_of bs) closed asked
 
@@ -79,5 +80,6 @@ abbrev pub InspectedStart : Result Start Why → Bool → Option ℕ → Type 0
 InspectedStart (Ok b) closed asked = InspectedBy b.setup.keys b.setup b.records closed asked
 InspectedStart (Err why) closed asked = ⊤
 
+-- the same of its bytes
 abbrev pub SheetIsInspected : List ℕ → Bool → Option ℕ → Type 0
 SheetIsInspected bs closed asked = InspectedStart (start_of bs) closed asked

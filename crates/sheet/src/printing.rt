@@ -36,8 +36,8 @@ fn add_body<K: NamedKey>(
     events: &[Event<K>],
     page: &Result<Vec<Version<K>>, Refusal>,
 ) -> Result<(), AllocError>
-    ensures { let body = body_lines K.name (set_up_numbers setup) at.closed at.stamp (map event_numbers events.now)
-        (shown (result_map (λ rows. rows.items) page.now)) in
+    ensures { let body = body_lines K.name (set_up_numbers setup) at.closed at.stamp
+        (map event_numbers events.now) (shown (result_map (λ rows. rows.items) page.now)) in
         OnOk result (string_bytes text.new ≡ string_bytes text.old ++ body) }
 {
     match page {
@@ -55,8 +55,8 @@ fn print_events<K: NamedKey>(
     events: &[Event<K>],
     page: &Result<Vec<Version<K>>, Refusal>,
 ) -> Result<String, AllocError>
-    ensures { let sheet = printed K.name (set_up_numbers setup) at.closed at.stamp (map event_numbers events.now)
-        (map content_of records.now) (shown (result_map (λ rows. rows.items) page.now)) in
+    ensures { let sheet = printed K.name (set_up_numbers setup) at.closed at.stamp
+        (map event_numbers events.now) (map content_of records.now) (shown (result_map (λ rows. rows.items) page.now)) in
         IfOk result (λ text. string_bytes text ≡ sheet) }
 {
     let mut text = String::new(heap);

@@ -33,7 +33,8 @@ fn stamp_of<K: NamedKey>(
     records: &[Record],
     request: Request,
 ) -> Result<u64, AllocError>
-    ensures { let stamp = stamp_for K.form K.cmp K.name (set_up_numbers setup) (map content_of records.now)
+    ensures { let contents = map content_of records.now in
+        let stamp = stamp_for K.form K.cmp K.name (set_up_numbers setup) contents
         request.closed request.stamp in
         IfOk result (λ found. found ≡ stamp) }
 {
@@ -55,8 +56,8 @@ fn sheet_for<K: NamedKey>(
     records: &[Record],
     at: At,
 ) -> Result<String, AllocError>
-    ensures text { let sheet = sheet_at K.form K.cmp K.name (set_up_numbers setup) (map content_of records.now)
-        at.closed at.stamp in
+    ensures text { let contents = map content_of records.now in
+        let sheet = sheet_at K.form K.cmp K.name (set_up_numbers setup) contents at.closed at.stamp in
         IfOk result (λ text. string_bytes text ≡ sheet) }
     ensures inspected { let contents = map content_of records.now in
         OnOk result (IsInspected K.form K.cmp (set_up_numbers setup) contents at.closed at.stamp) }
@@ -73,11 +74,13 @@ fn sheet_with<K: NamedKey>(
     request: Request,
 ) -> Result<String, AllocError>
     ensures text { let contents = map content_of records.now in
-        let stamp = stamp_for K.form K.cmp K.name (set_up_numbers setup) contents request.closed request.stamp in
+        let stamp = stamp_for K.form K.cmp K.name (set_up_numbers setup) contents
+        request.closed request.stamp in
         let sheet = sheet_at K.form K.cmp K.name (set_up_numbers setup) contents request.closed stamp in
         IfOk result (λ text. string_bytes text ≡ sheet) }
     ensures inspected { let contents = map content_of records.now in
-        let stamp = stamp_for K.form K.cmp K.name (set_up_numbers setup) contents request.closed request.stamp in
+        let stamp = stamp_for K.form K.cmp K.name (set_up_numbers setup) contents
+        request.closed request.stamp in
         OnOk result (IsInspected K.form K.cmp (set_up_numbers setup) contents request.closed stamp) }
 {
     let at = At {
@@ -98,7 +101,8 @@ fn sheet_behind(
         request.closed request.stamp in
         IfOk result (λ text. string_bytes text ≡ sheet) }
     ensures inspected { let contents = map content_of records.now in
-        OnOk result (InspectedBy setup.keys (set_up_numbers setup) contents request.closed request.stamp) }
+        OnOk result (InspectedBy setup.keys (set_up_numbers setup) contents
+        request.closed request.stamp) }
 {
     match setup.keys {
         Keys::Points => sheet_with::<Point>(heap, setup, records, request),
@@ -115,7 +119,8 @@ struct Start<'a, 't> {
 
 // What a trace begins with, or why it has no page.
 fn start_of<'a, 't>(records: &'a Records<'t>) -> Result<Start<'a, 't>, NoPage>
-    ensures { start_answer result ≡ start_by_records (map content_of records.now.list.items) (ending_of records.now.bad) }
+    ensures { let contents = map content_of records.now.list.items in
+        start_answer result ≡ start_by_records contents (ending_of records.now.bad) }
 {
     let Some((first, later)) = records.list.split_first() else {
         return Err(match records.bad {
@@ -139,7 +144,8 @@ pub fn sheet_text(
     trace: &[u8],
     request: Request,
 ) -> Result<Result<String, NoPage>, AllocError>
-    ensures sheet { IfOk result (λ answer. sheet_answer answer ≡ sheet_of trace.now request.closed request.stamp) }
+    ensures sheet { IfOk result (λ answer. sheet_answer answer
+        ≡ sheet_of trace.now request.closed request.stamp) }
     ensures law { OnOk result (SheetIsInspected trace.now request.closed request.stamp) }
     ensures room { 65536 < length trace.now → IsOk result }
 {

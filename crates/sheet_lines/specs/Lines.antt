@@ -1,5 +1,6 @@
 -- The lines of a sheet.
-use Rattle.std.specs.Prelude.{ℕ, zero, suc, Bool, if◌then◌else◌, ◌==◌, List, [], ◌++◌, codes, decimal, length, nat_lt, Some, None, Option}
+use Rattle.std.specs.Prelude.{ℕ, zero, suc, Bool, if◌then◌else◌, ◌==◌, List, [], ◌++◌, codes, decimal, length, nat_lt}
+use Rattle.std.specs.Prelude.{Some, None, Option}
 use Rattle.std.specs.List.{find, flat_map}
 use Rattle.history.specs.Events.{Event}
 use Rattle.history.specs.History.{last_stamp}
@@ -34,7 +35,9 @@ bound_line s =
 
 -- how many puts there were
 abbrev pub puts_line : Puts → List ℕ
-puts_line puts = codes "puts in the trace: " ++ (decimal puts.accepted ++ (codes " accepted, " ++ (decimal puts.refused ++ codes " refused\n")))
+puts_line puts =
+    codes "puts in the trace: " ++ (decimal puts.accepted
+    ++ (codes " accepted, " ++ (decimal puts.refused ++ codes " refused\n")))
 
 -- the stamp of the page
 abbrev pub page_line : ℕ → List ℕ
@@ -74,7 +77,7 @@ module _ {K : Type 0} (name : K → List ℕ) where
   abbrev pub row_line : Version K → Numbered K → List ℕ
   row_line v e = name v.key ++ row_fields v e
 
-  -- with the event that it comes from, if it is found (it is)
+  -- with the event that it comes from, if it is found: the law of a page says that each row of a final page has one
   abbrev pub found_line : Version K → Option (Numbered K) → List ℕ
   found_line v None = []
   found_line v (Some e) = row_line v e

@@ -20,7 +20,8 @@ fn word_of(keys: Keys) -> &'static str
 
 // The set-up in words.
 fn add_set_up(text: &mut String, setup: SetUp) -> Result<(), AllocError>
-    ensures { OnOk result (string_bytes text.new ≡ string_bytes text.old ++ set_up_line (set_up_numbers setup)) }
+    ensures { OnOk result (string_bytes text.new
+        ≡ string_bytes text.old ++ set_up_line (set_up_numbers setup)) }
 {
     let nodes = setup.settings.nodes();
     let keys = word_of(setup.keys);
@@ -40,7 +41,8 @@ fn bound_of(setup: SetUp) -> u32
 }
 
 fn add_bound(text: &mut String, setup: SetUp) -> Result<(), AllocError>
-    ensures { OnOk result (string_bytes text.new ≡ string_bytes text.old ++ bound_line (set_up_numbers setup)) }
+    ensures { OnOk result (string_bytes text.new
+        ≡ string_bytes text.old ++ bound_line (set_up_numbers setup)) }
 {
     let bound = bound_of(setup);
     writeln!(

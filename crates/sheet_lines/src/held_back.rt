@@ -13,7 +13,8 @@ use trace_history::last::last_stamp;
 
 // What a box reported last.
 fn add_box(text: &mut String, node: u8, last: Stamp) -> Result<(), AllocError>
-    ensures { OnOk result (string_bytes text.new ≡ string_bytes text.old ++ box_line node (stamp_of last)) }
+    ensures { OnOk result (string_bytes text.new
+        ≡ string_bytes text.old ++ box_line node (stamp_of last)) }
 {
     if last.code() == 0 {
         writeln!(text, "box {node} has reported nothing that was accepted")
@@ -51,7 +52,8 @@ fn add_held_back<K: Copy>(
 
 // That a page is refused, and why.
 fn add_refused(text: &mut String, refusal: Refusal) -> Result<(), AllocError>
-    ensures { OnOk result (string_bytes text.new ≡ string_bytes text.old ++ refused_line (number_of refusal)) }
+    ensures { OnOk result (string_bytes text.new
+        ≡ string_bytes text.old ++ refused_line (number_of refusal)) }
 {
     let number = refusal.number();
     writeln!(

@@ -16,6 +16,7 @@ module _ {K : Type 0} where
   what_numbers (what.Receipt number) = history.Receipt number
   what_numbers (what.Put key value) = history.Put key value
 
+  -- and which node it was
   abbrev pub deed_numbers : Deed K → events.Deed K
   deed_numbers d = record { node = d.node; what = what_numbers d.what }
 

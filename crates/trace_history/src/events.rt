@@ -110,7 +110,8 @@ pub fn events_of<K: TraceKey>(
     records: &[Record],
     answers: &[Answer<K>],
 ) -> Result<Vec<Event<K>>, AllocError>
-    ensures { let all = numbered_events K.form 2 (map content_of records.now) (map answer_numbers answers.now) in
+    ensures { let answers = map answer_numbers answers.now in
+        let all = numbered_events K.form 2 (map content_of records.now) answers in
         IfOk result (λ events. map event_numbers events.items ≡ all) }
 {
     let mut events = Vec::with_capacity(heap, records.len())?;

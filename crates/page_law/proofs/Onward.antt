@@ -125,8 +125,8 @@ module _ {K : Type 0} (order : K → K → Ordering) where
         sorted_then : IsSorted order with_put.versions
         sorted_then = sorted_with_version order total v contents.versions sound.sorted
             (no_id order v contents.versions (λ w is_in same.
-                let old : w.stamp ≤ code_of (stamp_at last node) = rw (← at_node, ← same) (sound.behind w is_in) in
-                omega (arith, old, later.later, of_stamp)))
+            let old : w.stamp ≤ code_of (stamp_at last node) = rw (← at_node, ← same) (sound.behind w is_in) in
+            omega (arith, old, later.later, of_stamp)))
 
         last_then : code_of (stamp_at next v.node) ≡ code_of stamp
         last_then = rw (at_node, get_or-set_same last node stamp zero_stamp later.inside) refl

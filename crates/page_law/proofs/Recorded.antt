@@ -75,7 +75,7 @@ module _ {K : Type 0} (form : KeyForm K) (order : K → K → Ordering) (backste
       let last = stamp_at s.last sample.node in
       let clock : clock_answer clocks s sample ≡ Ok sample.raw.0 = grind (arith, nat_tests, is) in
       let answered : at_reading (λ reading. event_answer (own_stamp last reading) reading) (clock_answer clocks s sample)
-          ≡ Ok event = grind (arith, nat_tests, is) in
+      ≡ Ok event = grind (arith, nat_tests, is) in
       let read = reading_by (own_stamp last) (clock_answer clocks s sample) event (own_ahead last) answered in
       let raw : event.stamp.time - event.drift ≡ sample.raw.0 = read ∙ ap (λ r. result_unwrap_or r 0) clock in
       sym raw ∙ same_reading _ e some

@@ -44,7 +44,7 @@ module _ {K : Type 0} where
   event_counted number (Some deed) (EventAnswer (Err refusal)) = omega arith
   event_counted number (Some deed) (EventAnswer (Ok event)) =
       let e : Event K =
-          record { node = deed.node; reading = event.stamp.time - event.drift; stamp = event.stamp; what = deed.what } in
+      record { node = deed.node; reading = event.stamp.time - event.drift; stamp = event.stamp; what = deed.what } in
       omega (arith, what_counted e deed.what)
   event_counted number (Some deed) (LossAnswer answer) = omega arith
   event_counted number (Some deed) (ReadAnswer answer) = omega arith

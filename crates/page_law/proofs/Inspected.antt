@@ -14,7 +14,7 @@ use Rattle.store.specs.Newest.{IsIn}
 use Rattle.store.specs.Page.{IsPage}
 use Rattle.store.specs.declared.version.Version.{Version}
 use Rattle.trace.specs.Contents.{Content}
-use Rattle.trace_history.specs.Trace.{bound_of, newest_final}
+use Rattle.trace_history.specs.Trace.{bound_of}
 use Rattle.trace_replay.specs.Page.{is_final}
 use Rattle.trace_replay.specs.Traced.{history_setup, told}
 use Rattle.trace_run.specs.Calls.{KeyForm, calls_of}

@@ -76,7 +76,8 @@ module _ {K : Type 0} (order : K → K → Ordering) where
     pub sorted : IsSorted order contents.versions
 
   -- What came next is sound too, and a code that all had reached they have reached, with the same page.
-  pub record GoesOn (last : List Timestamp) (contents : Contents K) (next : List Timestamp) (contents_then : Contents K) : Type 0 where
+  pub record GoesOn (last : List Timestamp) (contents : Contents K) (next : List Timestamp)
+      (contents_then : Contents K) : Type 0 where
     pub sound : AreSound next contents_then
     pub reached : (code : ℕ) → HaveReached last code → HaveReached next code
     pub page : (code : ℕ) → HaveReached last code → page order contents_then.versions code ≡ page order contents.versions code
@@ -125,8 +126,8 @@ module _ {K : Type 0} (order : K → K → Ordering) where
         sorted_then : IsSorted order with_put.versions
         sorted_then = sorted_with_version order total v contents.versions sound.sorted
             (no_id order v contents.versions (λ w is_in same.
-                let old : w.stamp ≤ code_of (stamp_at last node) = rw (← at_node, ← same) (sound.behind w is_in) in
-                omega (arith, old, later.later, of_stamp)))
+            let old : w.stamp ≤ code_of (stamp_at last node) = rw (← at_node, ← same) (sound.behind w is_in) in
+            omega (arith, old, later.later, of_stamp)))
 
         last_then : code_of (stamp_at next v.node) ≡ code_of stamp
         last_then = rw (at_node, get_or-set_same last node stamp zero_stamp later.inside) refl

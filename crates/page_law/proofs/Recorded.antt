@@ -1,6 +1,6 @@
 -- The record of an event's number calls for what the event did.
-use Rattle.std.proofs.Common.{◌≡◌, ℕ, ℤ, ◌+◌, ◌-◌, inl, inr, List, [], ◌∷◌, ◌++◌, length, Some, None, Ok, Err, Option, Result, refl}
-use Rattle.std.proofs.Common.{sym, ap, ◌∙◌, subst, arith}
+use Rattle.std.proofs.Common.{◌≡◌, ℕ, ℤ, ◌+◌, ◌-◌, inl, inr, List, [], ◌∷◌, ◌++◌, length, Some, None, Ok, Err, Option, Result}
+use Rattle.std.proofs.Common.{refl, sym, ap, ◌∙◌, subst, arith}
 use Rattle.std.specs.List.{cons_option}
 use Rattle.std.specs.Result.{result_ok, result_unwrap_or}
 use Rattle.std.specs.declared.cmp.Ordering.{Ordering}
@@ -75,7 +75,7 @@ module _ {K : Type 0} (form : KeyForm K) (order : K → K → Ordering) (backste
       let last = stamp_at s.last sample.node in
       let clock : clock_answer clocks s sample ≡ Ok sample.raw.0 = grind (arith, nat_tests, is) in
       let answered : at_reading (λ reading. event_answer (own_stamp last reading) reading) (clock_answer clocks s sample)
-          ≡ Ok event = grind (arith, nat_tests, is) in
+      ≡ Ok event = grind (arith, nat_tests, is) in
       let read = reading_by (own_stamp last) (clock_answer clocks s sample) event (own_ahead last) answered in
       let raw : event.stamp.time - event.drift ≡ sample.raw.0 = read ∙ ap (λ r. result_unwrap_or r 0) clock in
       sym raw ∙ same_reading _ e some

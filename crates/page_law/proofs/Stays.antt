@@ -1,27 +1,26 @@
 -- A final page stays.
-use Rattle.std.proofs.Common.{◌≡◌, ℕ, Bool, true, false, List, [], ◌++◌, length, refl, sym, ap, ◌∙◌, subst, arith}
-use Rattle.std.specs.Prelude.{if◌then◌else◌, nat_le, Ok, Err}
+use Rattle.std.proofs.Common.{◌≡◌, ℕ, Bool, true, false, List, ◌++◌, refl, sym, ap, ◌∙◌, subst, arith}
+use Rattle.std.specs.Prelude.{nat_le, Ok}
 use Rattle.std.specs.Cmp.{IsTotalOrder}
 use Rattle.std.specs.List.Sorted.{IsStrictlySortedBy}
 use Rattle.std.specs.Result.{result_ok}
 use Rattle.std.specs.declared.cmp.Ordering.{Ordering}
 use Rattle.std.proofs.lemmas.Bool.Decides.{nat_tests}
-use Rattle.std.proofs.lemmas.List.{get_or_past, get_or-replicate, length-replicate}
 use Rattle.std.proofs.lemmas.List.Elements.{filter_map-append}
 use Rattle.std.proofs.lemmas.List.Sums.{AllPass-from_list_all}
 use Rattle.keys.specs.Order.{IsKeyOrder}
 use Rattle.recorder.specs.State.{State}
-use Rattle.replay.specs.declared.call.Call.{Call}
-use Rattle.stamper.specs.Stamps.{no_stamps, none_below, stamp_at}
+use Rattle.stamper.specs.Stamps.{none_below}
 use Rattle.stamps.specs.Stamp.{Timestamp, code_of, zero_stamp}
-use Rattle.store.specs.Page.{page}
 use Rattle.trace.specs.Contents.{Content}
-use Rattle.trace_replay.specs.Page.{is_final, rows_at}
+use Rattle.trace_history.specs.Source.{is_source}
+use Rattle.trace_replay.specs.Page.{is_final}
 use Rattle.trace_replay.specs.Traced.{first_state, last_state}
 use Rattle.trace_run.specs.Calls.{KeyForm, call_of, calls_of}
 use Rattle.trace_run.specs.SetUp.{SetUpNumbers}
-use Rattle.page_law.specs.Stays.{FinalPagesStay, IsStill, PageStays}
+use Rattle.page_law.specs.Stays.{FinalPagesStay, IsStill}
 use Rattle.page_law.proofs.Finality.{below_one, fresh_stamp}
+use Rattle.page_law.proofs.Found.{stays_found}
 use Rattle.page_law.proofs.Onward.{HaveReached, IsSound, Onward, calls_on, end_behind}
 
 -- no stamp is below a code exactly if all have reached it
@@ -80,6 +79,7 @@ module _ {K : Type 0} (form : KeyForm K) (order : K → K → Ordering) (total :
         final = final_then closes;
         rows = goes_on.page stamp had;
         answer = rw (final_then closes, is) (ap Ok (goes_on.page stamp had));
+        found = λ v e there. stays_found form order setup.backstep later (is_source v) e 2 ms fresh there;
       }
 
 pub final_pages_stay : {K : Type 0} (form : KeyForm K) (order : K → K → Ordering) → IsTotalOrder order → IsKeyOrder order

@@ -3,4 +3,3 @@
 
 pub mod later;
 pub mod law;
-

@@ -12,9 +12,9 @@ use Rattle.replay.specs.Calls.{AnswerNumbers}
 use Rattle.replay.specs.declared.call.Call.{Call}
 use Rattle.trace.specs.Contents.{Content, content_of}
 use Rattle.trace.specs.declared.records.Record.{Record}
-use Rattle.trace_run.specs.Calls.{KeyForm, call_of, calls_of}
+use Rattle.trace_run.specs.Calls.{KeyForm, answers_left, call_of, calls_of}
 use Rattle.record_lines.specs.Lines.{Outcome, accepted_among, outcome_line, outcome_lines, refused_among}
-use Rattle.listing.specs.Outcomes.{AddsOutcomes, after_one, answers_left, next_outcome, recorded}
+use Rattle.listing.specs.Outcomes.{AddsOutcomes, after_one, next_outcome, recorded}
 use Rattle.record_lines.specs.declared.end.Counts.{Counts}
 
 -- a call has taken one answer

@@ -7,10 +7,10 @@ use Rattle.recorder.specs.State.{State}
 use Rattle.replay.specs.Calls.{AnswerNumbers}
 use Rattle.replay.specs.declared.call.Call.{Call}
 use Rattle.trace.specs.Contents.{Content}
-use Rattle.trace_run.specs.Calls.{KeyForm, call_of, calls_of}
+use Rattle.trace_run.specs.Calls.{KeyForm, answers_left, call_of, calls_of}
 use Rattle.record_lines.specs.Lines.{Outcome}
 use Rattle.trace_replay.specs.Machine.{trace_answers}
-use Rattle.listing.specs.Outcomes.{answers_left, next_outcome, recorded}
+use Rattle.listing.specs.Outcomes.{next_outcome, recorded}
 use Rattle.listing.specs.Text.{outcome, outcomes, state_behind}
 
 module _ {K : Type 0} (form : KeyForm K) (order : K → K → Ordering) (backstep : ℕ) where

@@ -4,7 +4,7 @@ use Rattle.lines.specs.Adding.{Adds}
 use Rattle.replay.specs.Calls.{AnswerNumbers}
 use Rattle.replay.specs.declared.call.Call.{Call}
 use Rattle.trace.specs.Contents.{Content}
-use Rattle.trace_run.specs.Calls.{KeyForm, call_of}
+use Rattle.trace_run.specs.Calls.{KeyForm, answers_left, call_of}
 use Rattle.record_lines.specs.Lines.{Outcome, accepted_among, answered, outcome_lines, refused_among}
 use Rattle.record_lines.specs.declared.end.Counts.{Counts}
 
@@ -14,12 +14,6 @@ module _ {K : Type 0} where
   next_outcome m (Err refusal) answers = Err refusal
   next_outcome m (Ok c) [] = Ok []
   next_outcome m (Ok c) (a ∷ answers) = answered m a
-
-  -- the answers that are left behind it
-  abbrev pub answers_left : Result (Call K) ℕ → List (AnswerNumbers K) → List (AnswerNumbers K)
-  answers_left (Err refusal) answers = answers
-  answers_left (Ok c) [] = []
-  answers_left (Ok c) (a ∷ answers) = answers
 
   -- of these records, one after another
   abbrev pub recorded : KeyForm K → List Content → List (AnswerNumbers K) → List Outcome

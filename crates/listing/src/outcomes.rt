@@ -3,9 +3,9 @@ ghost use Rattle.std.specs.Prelude.{◌≡◌, ◌+◌, ◌<◌, ◌^◌, IsOk, 
 ghost use Rattle.refusals.specs.Refusals.{result_map, shown};
 ghost use Rattle.replay.specs.Calls.{answer_numbers};
 ghost use Rattle.trace.specs.Contents.{content_of};
-ghost use Rattle.trace_run.specs.Calls.{call_of, calls_of};
+ghost use Rattle.trace_run.specs.Calls.{answers_left, call_of, calls_of};
 ghost use Rattle.record_lines.specs.Lines.{outcome_for};
-ghost use Rattle.listing.specs.Outcomes.{AddsOutcomes, after_one, answers_left, next_outcome, recorded};
+ghost use Rattle.listing.specs.Outcomes.{AddsOutcomes, after_one, next_outcome, recorded};
 
 use arrayvec::ArrayVec;
 use lines::line::Piece;

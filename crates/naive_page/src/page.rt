@@ -97,7 +97,7 @@ impl Replayed {
             "bound: no stamp is more than {bound} ms ahead of its box's clock"
         )?;
         let (accepted, refused) = self.count_puts();
-        writeln!(text, "puts: {accepted} accepted, {refused} refused")
+        writeln!(text, "puts in the trace: {accepted} accepted, {refused} refused")
     }
 
     fn add_rows(&self, text: &mut String, heap: Global, code: u64) -> Result<(), AllocError> {
@@ -113,7 +113,7 @@ impl Replayed {
     fn add_late_boxes(&self, text: &mut String, code: u64) -> Result<(), AllocError> {
         writeln!(
             text,
-            "not final: 18, since a box may still report up to this stamp"
+            "not final: refused with 18, since a box may still report at or below this stamp"
         )?;
         for node in 0..self.set_up.nodes {
             let last = self.last_stamp(node);
@@ -123,7 +123,7 @@ impl Replayed {
             write!(text, "box {node} ")?;
             // No event has the stamp 0.0.
             if last.code() == 0 {
-                writeln!(text, "has not reported")?;
+                writeln!(text, "has reported nothing that was accepted")?;
             } else {
                 write!(text, "last reported ")?;
                 add_stamp(text, last)?;
@@ -160,11 +160,11 @@ impl Replayed {
         if closed {
             writeln!(
                 text,
-                "final: the recorder is closed, and no box will report any more"
+                "final: the recorder is closed, as asked, and no box will report any more"
             )?;
             self.add_rows(text, heap, code)
         } else if code <= lowest {
-            writeln!(text, "final: every box has reported up to this stamp")?;
+            writeln!(text, "final: no box can report at or below this stamp any more")?;
             self.add_rows(text, heap, code)
         } else {
             self.add_late_boxes(text, code)

@@ -8,10 +8,5 @@ use std::{env, io};
 
 fn main(rt: HostRuntime) -> io::Result<ExitCode> {
     let words = env::args(&rt)?.skip(1).collect::<Vec<String>>(rt.alloc())?;
-    print_page(
-        request_of(&words),
-        rt.stdin(),
-        &mut rt.stdout(),
-        rt.alloc(),
-    )
+    print_page(request_of(&words), rt.stdin(), &mut rt.stdout(), rt.alloc())
 }

@@ -59,9 +59,9 @@ pub const SHEETS: [Sheet; 19] = [
         closed: false,
         text: "set-up: boxes 2, keys points, lead 500 ms, backstep 20 ms\n\
             bound: no stamp is more than 520 ms ahead of its box's clock\n\
-            puts: 2 accepted, 0 refused\n\
+            puts in the trace: 2 accepted, 0 refused\n\
             page: 1000.2\n\
-            final: every box has reported up to this stamp\n\
+            final: no box can report at or below this stamp any more\n\
             key value stamp box record clock\n\
             7 -9.000 1000.0 0 2 1000\n\
             rows: 1\n",
@@ -73,9 +73,9 @@ pub const SHEETS: [Sheet; 19] = [
         closed: false,
         text: "set-up: boxes 2, keys points, lead 500 ms, backstep 20 ms\n\
             bound: no stamp is more than 520 ms ahead of its box's clock\n\
-            puts: 2 accepted, 0 refused\n\
+            puts in the trace: 2 accepted, 0 refused\n\
             page: 1000.3\n\
-            not final: 18, since a box may still report up to this stamp\n\
+            not final: refused with 18, since a box may still report at or below this stamp\n\
             box 0 last reported 1000.2\n",
     },
     Sheet {
@@ -85,9 +85,9 @@ pub const SHEETS: [Sheet; 19] = [
         closed: false,
         text: "set-up: boxes 2, keys points, lead 500 ms, backstep 20 ms\n\
             bound: no stamp is more than 520 ms ahead of its box's clock\n\
-            puts: 2 accepted, 0 refused\n\
+            puts in the trace: 2 accepted, 0 refused\n\
             page: 1000.2\n\
-            final: every box has reported up to this stamp\n\
+            final: no box can report at or below this stamp any more\n\
             key value stamp box record clock\n\
             7 -9.000 1000.0 0 2 1000\n\
             rows: 1\n",
@@ -99,9 +99,9 @@ pub const SHEETS: [Sheet; 19] = [
         closed: true,
         text: "set-up: boxes 2, keys points, lead 500 ms, backstep 20 ms\n\
             bound: no stamp is more than 520 ms ahead of its box's clock\n\
-            puts: 2 accepted, 0 refused\n\
+            puts in the trace: 2 accepted, 0 refused\n\
             page: 1000.3\n\
-            final: the recorder is closed, and no box will report any more\n\
+            final: the recorder is closed, as asked, and no box will report any more\n\
             key value stamp box record clock\n\
             7 -8.500 1000.3 1 5 985\n\
             rows: 1\n",
@@ -113,9 +113,9 @@ pub const SHEETS: [Sheet; 19] = [
         closed: true,
         text: "set-up: boxes 2, keys points, lead 500 ms, backstep 20 ms\n\
             bound: no stamp is more than 520 ms ahead of its box's clock\n\
-            puts: 2 accepted, 0 refused\n\
+            puts in the trace: 2 accepted, 0 refused\n\
             page: 281474976710655.65535\n\
-            final: the recorder is closed, and no box will report any more\n\
+            final: the recorder is closed, as asked, and no box will report any more\n\
             key value stamp box record clock\n\
             7 -8.500 1000.3 1 5 985\n\
             rows: 1\n",
@@ -127,9 +127,9 @@ pub const SHEETS: [Sheet; 19] = [
         closed: false,
         text: "set-up: boxes 1, keys points, lead 86400000 ms, backstep 0 ms\n\
             bound: no stamp is more than 86400000 ms ahead of its box's clock\n\
-            puts: 6 accepted, 3 refused\n\
+            puts in the trace: 6 accepted, 3 refused\n\
             page: 1004.1\n\
-            final: every box has reported up to this stamp\n\
+            final: no box can report at or below this stamp any more\n\
             key value stamp box record clock\n\
             0 1.000 1004.0 0 7 1004\n\
             1 -1.050 1004.1 0 8 1004\n\
@@ -146,9 +146,9 @@ pub const SHEETS: [Sheet; 19] = [
         closed: false,
         text: "set-up: boxes 1, keys tags, lead 0 ms, backstep 20 ms\n\
             bound: no stamp is more than 20 ms ahead of its box's clock\n\
-            puts: 6 accepted, 0 refused\n\
+            puts in the trace: 6 accepted, 0 refused\n\
             page: 1000.5\n\
-            final: every box has reported up to this stamp\n\
+            final: no box can report at or below this stamp any more\n\
             key value stamp box record clock\n\
             A 0.000 1000.4 0 6 1000\n\
             A- 4.000 1000.3 0 5 1000\n\
@@ -165,9 +165,9 @@ pub const SHEETS: [Sheet; 19] = [
         closed: false,
         text: "set-up: boxes 1, keys tags, lead 0 ms, backstep 20 ms\n\
             bound: no stamp is more than 20 ms ahead of its box's clock\n\
-            puts: 6 accepted, 0 refused\n\
+            puts in the trace: 6 accepted, 0 refused\n\
             page: 1000.1\n\
-            final: every box has reported up to this stamp\n\
+            final: no box can report at or below this stamp any more\n\
             key value stamp box record clock\n\
             AA 2.000 1000.1 0 3 995\n\
             B 1.000 1000.0 0 2 1000\n\
@@ -180,9 +180,9 @@ pub const SHEETS: [Sheet; 19] = [
         closed: false,
         text: "set-up: boxes 2, keys points, lead 0 ms, backstep 0 ms\n\
             bound: no stamp is more than 0 ms ahead of its box's clock\n\
-            puts: 2 accepted, 0 refused\n\
+            puts in the trace: 2 accepted, 0 refused\n\
             page: 1000.0\n\
-            final: every box has reported up to this stamp\n\
+            final: no box can report at or below this stamp any more\n\
             key value stamp box record clock\n\
             7 0.001 1000.0 1 2 1000\n\
             rows: 1\n",
@@ -194,9 +194,9 @@ pub const SHEETS: [Sheet; 19] = [
         closed: false,
         text: "set-up: boxes 2, keys points, lead 0 ms, backstep 0 ms\n\
             bound: no stamp is more than 0 ms ahead of its box's clock\n\
-            puts: 2 accepted, 0 refused\n\
+            puts in the trace: 2 accepted, 0 refused\n\
             page: 999.65535\n\
-            final: every box has reported up to this stamp\n\
+            final: no box can report at or below this stamp any more\n\
             key value stamp box record clock\n\
             rows: 0\n",
     },
@@ -207,11 +207,11 @@ pub const SHEETS: [Sheet; 19] = [
         closed: false,
         text: "set-up: boxes 3, keys points, lead 1 ms, backstep 0 ms\n\
             bound: no stamp is more than 1 ms ahead of its box's clock\n\
-            puts: 0 accepted, 0 refused\n\
+            puts in the trace: 0 accepted, 0 refused\n\
             page: 0.1\n\
-            not final: 18, since a box may still report up to this stamp\n\
-            box 0 has not reported\n\
-            box 2 has not reported\n",
+            not final: refused with 18, since a box may still report at or below this stamp\n\
+            box 0 has reported nothing that was accepted\n\
+            box 2 has reported nothing that was accepted\n",
     },
     Sheet {
         name: "three nodes, at the lowest stamp",
@@ -220,9 +220,9 @@ pub const SHEETS: [Sheet; 19] = [
         closed: false,
         text: "set-up: boxes 3, keys points, lead 1 ms, backstep 0 ms\n\
             bound: no stamp is more than 1 ms ahead of its box's clock\n\
-            puts: 0 accepted, 0 refused\n\
+            puts in the trace: 0 accepted, 0 refused\n\
             page: 0.0\n\
-            final: every box has reported up to this stamp\n\
+            final: no box can report at or below this stamp any more\n\
             key value stamp box record clock\n\
             rows: 0\n",
     },
@@ -233,12 +233,12 @@ pub const SHEETS: [Sheet; 19] = [
         closed: false,
         text: "set-up: boxes 3, keys points, lead 1 ms, backstep 0 ms\n\
             bound: no stamp is more than 1 ms ahead of its box's clock\n\
-            puts: 0 accepted, 0 refused\n\
+            puts in the trace: 0 accepted, 0 refused\n\
             page: 1000.1\n\
-            not final: 18, since a box may still report up to this stamp\n\
-            box 0 has not reported\n\
+            not final: refused with 18, since a box may still report at or below this stamp\n\
+            box 0 has reported nothing that was accepted\n\
             box 1 last reported 1000.0\n\
-            box 2 has not reported\n",
+            box 2 has reported nothing that was accepted\n",
     },
     Sheet {
         name: "three nodes, closed",
@@ -247,9 +247,9 @@ pub const SHEETS: [Sheet; 19] = [
         closed: true,
         text: "set-up: boxes 3, keys points, lead 1 ms, backstep 0 ms\n\
             bound: no stamp is more than 1 ms ahead of its box's clock\n\
-            puts: 0 accepted, 0 refused\n\
+            puts in the trace: 0 accepted, 0 refused\n\
             page: 1000.0\n\
-            final: the recorder is closed, and no box will report any more\n\
+            final: the recorder is closed, as asked, and no box will report any more\n\
             key value stamp box record clock\n\
             rows: 0\n",
     },

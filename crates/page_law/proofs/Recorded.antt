@@ -11,9 +11,9 @@ use Rattle.replay.specs.declared.call.Call.TheVariants as call
 use Rattle.store.specs.Newest.{IsIn}
 use Rattle.store.specs.declared.version.Version.{Version}
 use Rattle.trace.specs.Contents.{Content}
-use Rattle.trace_history.specs.Events.{Deed, Numbered, answers_left, deed_by, event_by, next_event, numbered_events}
+use Rattle.trace_history.specs.Events.{Deed, Numbered, deed_by, event_by, next_event, numbered_events}
 use Rattle.trace_history.specs.Trace.{trace_events}
-use Rattle.trace_run.specs.Calls.{KeyForm, call_of}
+use Rattle.trace_run.specs.Calls.{KeyForm, answers_left, call_of}
 use Rattle.trace_run.specs.SetUp.{SetUpNumbers}
 use Rattle.page_law.specs.Inspected.{HasPut, IsPutBy}
 

@@ -26,9 +26,9 @@ use Rattle.stamps.specs.Rules.{StampedNumbers, event_answer, own_stamp, receipt_
 use Rattle.stamps.specs.Stamp.{Timestamp}
 use Rattle.store.specs.declared.version.Version.{Version}
 use Rattle.trace.specs.Contents.{Content}
-use Rattle.trace_history.specs.Events.{Numbered, answers_left, deed_by, event_by, next_event, numbered_events}
+use Rattle.trace_history.specs.Events.{Numbered, deed_by, event_by, next_event, numbered_events}
 use Rattle.trace_replay.specs.Machine.{behind_call, clocks_of, highs_after, trace_answers, trace_told}
-use Rattle.trace_run.specs.Calls.{KeyForm, call_of, calls_of}
+use Rattle.trace_run.specs.Calls.{KeyForm, answers_left, call_of, calls_of}
 
 -- the clock's reading of an event is the stamp's time less the drift
 reading_by : (rule : ℕ → Timestamp) (clock : Result ℕ ℕ) (event : StampedNumbers)

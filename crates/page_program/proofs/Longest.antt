@@ -44,10 +44,11 @@ module _ (r : Request) (old new : Option (List ℕ)) where
   shown_of : (code : ExitCode) (read trace : List ℕ) → read ≡ take 65537 trace → ShowsPage (Some r) read old new code
       → ShowsPage (Some r) trace old new code
   shown_of code read trace is shows =
-      let same : start_of read ≡ start_of trace = ap start_of is ∙ start_of_first trace in
-      (subst (λ start. Prints (answer_text (sheet_of_start start r.closed r.stamp)) (status_of (sheet_of_start start r.closed r.stamp))
-      old new code) same shows.0,
-      subst (λ start. InspectedStart start r.closed r.stamp) same shows.1)
+      let same : start_of read ≡ start_of trace = ap start_of is ∙ start_of_first trace in (
+        subst (λ start. Prints (answer_text (sheet_of_start start r.closed r.stamp)) (status_of (sheet_of_start start r.closed r.stamp))
+            old new code) same shows.0,
+        subst (λ start. InspectedStart start r.closed r.stamp) same shows.1,
+      )
 
   pub shown_of_all : {E : Type 0} (result : Result ExitCode E) (read : List ℕ) (remaining : Option (List ℕ))
       (answer : Result (List ℕ) Why)

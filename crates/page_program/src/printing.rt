@@ -20,10 +20,7 @@ fn read_trace<R: Read + Drop>(input: R, heap: Global) -> io::Result<Vec<u8>>
 }
 
 // Writes a sheet in one piece, or the line in its place.
-fn write_answer<W: Write>(
-    answer: Result<String, NoPage>,
-    output: &mut W,
-) -> io::Result<ExitCode>
+fn write_answer<W: Write>(answer: Result<String, NoPage>, output: &mut W) -> io::Result<ExitCode>
     ensures { let answer = sheet_answer answer in
         IfOk result (λ code. Prints (answer_text answer) (status_of answer)
         (W.contents output.old) (W.contents output.new) code) }

@@ -1,5 +1,5 @@
 -- The sheet of a trace.
-use Rattle.std.specs.Prelude.{ℕ, Bool, if◌then◌else◌, List, [], ◌∷◌, ◌++◌, nat_le, length, Some, None, Ok, Err, Option, Result, ⊤}
+use Rattle.std.specs.Prelude.{ℕ, Bool, if◌then◌else◌, List, [], ◌∷◌, nat_le, length, Some, None, Ok, Err, Option, Result, ⊤}
 use Rattle.std.specs.declared.cmp.Ordering.{Ordering}
 use Rattle.keys.specs.Tag.{tag_cmp}
 use Rattle.page_law.specs.Inspected.{IsInspected, events}
@@ -13,7 +13,7 @@ use Rattle.trace_run.specs.Calls.{KeyForm, calls_of, points, tags}
 use Rattle.trace_run.specs.SetUp.{SetUpNumbers, set_up_answer}
 use Rattle.trace_run.specs.declared.setup.Keys.{Keys}
 use Rattle.trace_run.specs.declared.setup.Keys.TheVariants.{Points, Tags}
-use Rattle.sheet.specs.NoPage.{Why, bad, empty, long}
+use Rattle.sheet.specs.NoPage.{Why, no_record, refused_at, too_long}
 use Rattle.sheet.specs.Printed.{printed}
 
 -- The records behind a set-up, with keys in this form and order, and of these names; and whether the recorder is closed behind
@@ -53,18 +53,18 @@ pub record Start : Type 0 where
 -- with a first record that sets up so, or is refused
 abbrev pub start_by_set_up : Result SetUpNumbers ℕ → List Content → Ending → Result Start Why
 start_by_set_up (Ok setup) ms complete = Ok (record { setup = setup; records = ms })
-start_by_set_up (Ok setup) ms (refused refusal offset) = Err (bad refusal offset)
-start_by_set_up (Err refusal) ms ending = Err (bad refusal 0)
+start_by_set_up (Ok setup) ms (refused refusal offset) = Err (refused_at refusal offset)
+start_by_set_up (Err refusal) ms ending = Err (refused_at refusal 0)
 
 -- of records that end so
 abbrev pub start_by_records : List Content → Ending → Result Start Why
-start_by_records [] complete = Err empty
-start_by_records [] (refused refusal offset) = Err (bad refusal offset)
+start_by_records [] complete = Err no_record
+start_by_records [] (refused refusal offset) = Err (refused_at refusal offset)
 start_by_records (m ∷ ms) ending = start_by_set_up (set_up_answer m) ms ending
 
 -- of a trace's bytes
 abbrev pub start_of : List ℕ → Result Start Why
-start_of bs = (if nat_le (length bs) 65536 then start_by_records (whole_of bs).records (whole_of bs).ending else Err long)
+start_of bs = (if nat_le (length bs) 65536 then start_by_records (whole_of bs).records (whole_of bs).ending else Err too_long)
 
 -- the sheet of a trace, or why it has none
 abbrev pub sheet_of_start : Result Start Why → Bool → Option ℕ → Result (List ℕ) Why

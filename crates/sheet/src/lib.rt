@@ -2,7 +2,6 @@
 #![tactic(auto)]
 
 pub mod no_page;
+mod printing;
 pub mod request;
 pub mod sheet;
-
-mod printing;

@@ -41,11 +41,7 @@ fn stamp_of<K: NamedKey>(
     }
     let answers = answers_for::<K>(heap, setup, records)?;
     let events = events_of(heap, records, &answers)?;
-    Ok(newest_final(
-        request.closed,
-        &events,
-        setup.settings.nodes(),
-    ))
+    Ok(newest_final(request.closed, &events, setup.settings.nodes()))
 }
 
 // The sheet of the page at a stamp.

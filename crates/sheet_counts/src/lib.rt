@@ -49,7 +49,7 @@ const NAMES: [&str; 17] = [
 // What a line begins with, of those that are counted but for rows and boxes.
 const BEGINNINGS: [(&str, Count); 11] = [
     ("set-up: ", Count::Sheet),
-    ("final: every box", Count::FinalOpen),
+    ("final: no box", Count::FinalOpen),
     ("final: the recorder", Count::FinalClosed),
     ("not final: ", Count::NotFinal),
     ("rows: 0", Count::NoRow),
@@ -69,7 +69,7 @@ pub struct Counts {
 // What a line of a sheet is counted as. A row alone begins with a capital letter, a digit or a hyphen.
 fn count_of(line: &str) -> Option<Count> {
     if line.starts_with("box ") {
-        return Some(if line.ends_with("has not reported") {
+        return Some(if line.ends_with("has reported nothing that was accepted") {
             Count::NeverReported
         } else {
             Count::Reported

@@ -11,7 +11,7 @@ use Rattle.trace_history.specs.Trace.{bound_of}
 use Rattle.trace_run.specs.SetUp.{SetUpNumbers}
 use Rattle.trace_run.specs.declared.setup.Keys.{Keys}
 use Rattle.trace_run.specs.declared.setup.Keys.TheVariants.{Points, Tags}
-use Rattle.sheet_lines.specs.Numbers.{code_text, stamp_text, units_text}
+use Rattle.sheet_lines.specs.Numbers.{code_text, timestamp_text, units_text}
 use Rattle.sheet_lines.specs.declared.puts.Puts.{Puts}
 
 -- the kind of keys
@@ -34,7 +34,7 @@ bound_line s =
 
 -- how many puts there were
 abbrev pub puts_line : Puts → List ℕ
-puts_line puts = codes "puts: " ++ (decimal puts.accepted ++ (codes " accepted, " ++ (decimal puts.refused ++ codes " refused\n")))
+puts_line puts = codes "puts in the trace: " ++ (decimal puts.accepted ++ (codes " accepted, " ++ (decimal puts.refused ++ codes " refused\n")))
 
 -- the stamp of the page
 abbrev pub page_line : ℕ → List ℕ
@@ -48,8 +48,8 @@ head_lines s puts stamp = set_up_line s ++ (bound_line s ++ (puts_line puts ++ p
 abbrev pub final_line : Bool → List ℕ
 final_line closes =
     (if closes
-    then codes "final: the recorder is closed, and no box will report any more\n"
-    else codes "final: every box has reported up to this stamp\n")
+    then codes "final: the recorder is closed, as asked, and no box will report any more\n"
+    else codes "final: no box can report at or below this stamp any more\n")
 
 -- what stands in the rows
 abbrev pub columns_line : List ℕ
@@ -95,8 +95,8 @@ module _ {K : Type 0} (name : K → List ℕ) where
 abbrev pub box_line : ℕ → Timestamp → List ℕ
 box_line node last =
     (if code_of last == 0
-    then codes "box " ++ (decimal node ++ codes " has not reported\n")
-    else codes "box " ++ (decimal node ++ (codes " last reported " ++ (stamp_text last ++ codes "\n"))))
+    then codes "box " ++ (decimal node ++ codes " has reported nothing that was accepted\n")
+    else codes "box " ++ (decimal node ++ (codes " last reported " ++ (timestamp_text last ++ codes "\n"))))
 
 -- of a node, if its last stamp is below the page's
 abbrev pub held_back_line : ℕ → ℕ → Timestamp → List ℕ
@@ -111,7 +111,7 @@ held_back_lines events stamp (suc n) =
 -- that a page is refused, and why
 abbrev pub refused_line : ℕ → List ℕ
 refused_line refusal =
-    codes "not final: " ++ (decimal refusal ++ codes ", since a box may still report up to this stamp\n")
+    codes "not final: refused with " ++ (decimal refusal ++ codes ", since a box may still report at or below this stamp\n")
 
 -- a page that could still change: the refusal, and the boxes that hold it back
 abbrev pub waiting_lines : {K : Type 0} → ℕ → List (Event K) → ℕ → ℕ → List ℕ

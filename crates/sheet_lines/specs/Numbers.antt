@@ -14,9 +14,9 @@ units_text value =
     ++ (decimal (unsigned_abs value / 1000) ++ (codes "." ++ three_digits (unsigned_abs value)))
 
 -- a stamp: time.counter
-abbrev pub stamp_text : Timestamp → List ℕ
-stamp_text t = decimal t.time ++ (codes "." ++ decimal t.counter)
+abbrev pub timestamp_text : Timestamp → List ℕ
+timestamp_text t = decimal t.time ++ (codes "." ++ decimal t.counter)
 
 -- the stamp of a code
 abbrev pub code_text : ℕ → List ℕ
-code_text code = stamp_text (record { time = code / 65536; counter = code % 65536 })
+code_text code = timestamp_text (record { time = code / 65536; counter = code % 65536 })

@@ -16,19 +16,14 @@ fn add_box(text: &mut String, node: u8, last: Stamp) -> Result<(), AllocError>
     ensures { OnOk result (string_bytes text.new ≡ string_bytes text.old ++ box_line node (stamp_of last)) }
 {
     if last.code() == 0 {
-        writeln!(text, "box {node} has not reported")
+        writeln!(text, "box {node} has reported nothing that was accepted")
     } else {
         writeln!(text, "box {node} last reported {last}")
     }
 }
 
 // The same, if the page waits for it.
-fn add_if_held_back(
-    text: &mut String,
-    stamp: u64,
-    node: u8,
-    last: Stamp,
-) -> Result<(), AllocError>
+fn add_if_held_back(text: &mut String, stamp: u64, node: u8, last: Stamp) -> Result<(), AllocError>
     ensures { OnOk result (string_bytes text.new
         ≡ string_bytes text.old ++ held_back_line stamp node (stamp_of last)) }
 {
@@ -61,7 +56,7 @@ fn add_refused(text: &mut String, refusal: Refusal) -> Result<(), AllocError>
     let number = refusal.number();
     writeln!(
         text,
-        "not final: {number}, since a box may still report up to this stamp"
+        "not final: refused with {number}, since a box may still report at or below this stamp"
     )
 }
 

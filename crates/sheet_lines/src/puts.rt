@@ -3,7 +3,8 @@ ghost use Rattle.std.specs.Prelude.{◌≡◌, ◌≤◌, ◌∷◌, [], length,
 ghost use Rattle.history.specs.Events.{puts as puts_of};
 ghost use Rattle.trace.specs.Contents.{content_of};
 ghost use Rattle.trace_history.specs.Shown.{event_numbers, events_in};
-ghost use Rattle.sheet_lines.specs.Puts.{put_counts, put_records};
+ghost use Rattle.trace_history.specs.Puts.{put_records};
+ghost use Rattle.sheet_lines.specs.Puts.{put_counts};
 
 use trace::records::Record;
 use trace_history::events::{Event, What};

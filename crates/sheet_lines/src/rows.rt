@@ -24,7 +24,9 @@ fn add_fields<K: NamedKey>(
     let stamp = Code(version.stamp);
     let node = version.node;
     let &Event {
-        number, reading, ..
+        number,
+        reading,
+        ..
     } = event;
     writeln!(text, " {value} {stamp} {node} {number} {reading}")
 }
@@ -66,10 +68,10 @@ fn add_final(text: &mut String, closes: bool) -> Result<(), AllocError>
     if closes {
         writeln!(
             text,
-            "final: the recorder is closed, and no box will report any more"
+            "final: the recorder is closed, as asked, and no box will report any more"
         )
     } else {
-        writeln!(text, "final: every box has reported up to this stamp")
+        writeln!(text, "final: no box can report at or below this stamp any more")
     }
 }
 

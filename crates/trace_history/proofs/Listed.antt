@@ -7,8 +7,8 @@ use Rattle.std.proofs.lemmas.List.{at_drop_all, at_drop_more, map-append}
 use Rattle.replay.specs.Calls.{AnswerNumbers}
 use Rattle.trace.specs.Contents.{Content, content_of}
 use Rattle.trace.specs.declared.records.Record.{Record}
-use Rattle.trace_run.specs.Calls.{KeyForm, call_of}
-use Rattle.trace_history.specs.Events.{Numbered, answers_left, next_event, numbered_events}
+use Rattle.trace_run.specs.Calls.{KeyForm, answers_left, call_of}
+use Rattle.trace_history.specs.Events.{Numbered, next_event, numbered_events}
 use Rattle.trace_history.specs.Shown.{event_numbers}
 use Rattle.trace_history.specs.declared.events.Event.{Event}
 

@@ -6,7 +6,7 @@ use Rattle.replay.specs.Calls.{AnswerNumbers, EventAnswer}
 use Rattle.replay.specs.declared.call.Call.{Call}
 use Rattle.replay.specs.declared.call.Call.TheVariants as call
 use Rattle.trace.specs.Contents.{Content}
-use Rattle.trace_run.specs.Calls.{KeyForm, call_of}
+use Rattle.trace_run.specs.Calls.{KeyForm, answers_left, call_of}
 
 -- An event of a trace, as the history has it, and the number of its record, from 1.
 pub record Numbered (K : Type 0) : Type 0 where
@@ -46,12 +46,6 @@ module _ {K : Type 0} where
   next_event number (Err refusal) answers = None
   next_event number (Ok c) [] = None
   next_event number (Ok c) (a ∷ answers) = event_by number (deed_by c) a
-
-  -- the answers that are left behind it
-  abbrev pub answers_left : Result (Call K) ℕ → List (AnswerNumbers K) → List (AnswerNumbers K)
-  answers_left (Err refusal) answers = answers
-  answers_left (Ok c) [] = []
-  answers_left (Ok c) (a ∷ answers) = answers
 
   -- of these records, the first of which has this number
   abbrev pub numbered_events : KeyForm K → ℕ → List Content → List (AnswerNumbers K) → List (Numbered K)

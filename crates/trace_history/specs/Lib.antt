@@ -1,4 +1,5 @@
 pub mod Events
+pub mod Puts
 pub mod Shown
 pub mod Source
 pub mod Trace

@@ -4,9 +4,9 @@ ghost use Rattle.std.specs.Option.{option_map};
 ghost use Rattle.replay.specs.Calls.{answer_numbers};
 ghost use Rattle.stamps.specs.Stamp.{stamp_of};
 ghost use Rattle.trace.specs.Contents.{content_of};
-ghost use Rattle.trace_history.specs.Events.{answers_left, deed_by, event_by, next_event, numbered_events};
+ghost use Rattle.trace_history.specs.Events.{deed_by, event_by, next_event, numbered_events};
 ghost use Rattle.trace_history.specs.Shown.{deed_numbers, event_numbers};
-ghost use Rattle.trace_run.specs.Calls.{call_of};
+ghost use Rattle.trace_run.specs.Calls.{answers_left, call_of};
 
 use replay::call::{Answer, Call};
 use stamps::stamp::Stamp;

@@ -23,7 +23,8 @@ use Rattle.replay.specs.declared.call.Question.{Question}
 use Rattle.replay.specs.declared.call.Question.TheVariants as question
 use Rattle.store.specs.declared.version.Version.{Version}
 use Rattle.trace_replay.specs.Machine.{clocks_of, trace_answers}
-use Rattle.trace_replay.specs.Page.{AsksForPage, IsOfCut, IsPaged, cut_page, is_final, page_answer, page_history, rows_at}
+use Rattle.trace_replay.specs.Page.{IsPaged, is_final, page_answer, page_history, rows_at}
+use Rattle.trace_replay.specs.Within.{AsksForPage, IsOfCut, cut_page}
 use Rattle.trace_replay.specs.Traced.{IsTraced, first_state, history_setup, last_state, places, run_history, told}
 use Rattle.trace_replay.proofs.Room.{rows_fit}
 use Rattle.trace_run.specs.SetUp.{SetUpNumbers}
@@ -142,10 +143,12 @@ module _ {K : Type 0} (order : K → K → Ordering) (total : IsTotalOrder order
             let before = told order setup calls in
             let history : run_history order setup calls closes questions ≡ page_history order setup calls closes stamp =
             ap (run_history order setup calls closes) asks.one
-            ∙ ap (λ entries. before ++ ((if closes then Closed ∷ [] else []) ++ entries)) cut.entries in
-            (tt, record {
-              answers_are = parts.front;
-              page_is = cut.page_is;
-              written = subst (IsHistory order (history_setup setup)) history traced.written;
-              lawful = subst (IsLawful order (history_setup setup)) history traced.lawful;
-            })
+            ∙ ap (λ entries. before ++ ((if closes then Closed ∷ [] else []) ++ entries)) cut.entries in (
+              tt,
+              record {
+                answers_are = parts.front;
+                page_is = cut.page_is;
+                written = subst (IsHistory order (history_setup setup)) history traced.written;
+                lawful = subst (IsLawful order (history_setup setup)) history traced.lawful;
+              },
+            )

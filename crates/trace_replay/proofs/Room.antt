@@ -48,8 +48,12 @@ fewer same (x ∷ xs) = fewer_from same x xs
 module _ {K : Type 0} (order : K → K → Ordering) (total : IsTotalOrder order) where
   page_fits : (versions : List (Version K)) (stamp : ℕ) → length (page order versions stamp) ≤ length versions
   page_fits versions stamp =
-      omega (arith, no_longer (λ key. newest order versions key stamp) (keys order versions),
-      fewer (λ k l. is_eq (order k l)) (map (λ (v : Version K). v.key) versions), length-map versions (λ (v : Version K). v.key))
+      omega (
+        arith,
+        no_longer (λ key. newest order versions key stamp) (keys order versions),
+        fewer (λ k l. is_eq (order k l)) (map (λ (v : Version K). v.key) versions),
+        length-map versions (λ (v : Version K). v.key),
+      )
 
   -- no more versions than there are places
   abbrev Fits : ℕ → State (ℕ → ℕ) K → Type 0

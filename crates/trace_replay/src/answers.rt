@@ -7,8 +7,9 @@ ghost use Rattle.trace_replay.specs.Traced.{first_state};
 ghost use Rattle.trace_run.specs.Calls.{calls_of};
 ghost use Rattle.trace_run.specs.SetUp.{set_up_numbers};
 
-use crate::stores::{Ending, StoredKey};
+use crate::stores::StoredKey;
 use replay::call::{Answer, Call};
+use replay::replay::Run;
 use std::alloc::{AllocError, Global};
 use trace::records::Record;
 use trace_run::calls::calls_for;
@@ -24,11 +25,12 @@ fn answers_to<K: StoredKey>(
         IfOk result (λ answers. map answer_numbers answers.items
         ≡ trace_answers K.cmp (set_up_numbers setup).backstep start calls.items) }
 {
-    let ending = Ending {
+    let run = Run {
+        calls,
         closes: false,
         questions: Vec::new(heap),
     };
-    K::replay_calls(heap, setup, calls, ending)
+    K::replay_run(heap, setup, run)
 }
 
 // The same to the calls of the records behind a set-up.

@@ -3,13 +3,15 @@ ghost use Rattle.std.specs.Prelude.{◌≡◌, IfOk, map};
 ghost use Rattle.refusals.specs.Refusals.{result_map, shown};
 ghost use Rattle.replay.specs.Calls.{answer_numbers};
 ghost use Rattle.trace.specs.Contents.{content_of};
-ghost use Rattle.trace_replay.specs.Page.{AsksForPage, IsOfCut, IsPaged, cut_page};
+ghost use Rattle.trace_replay.specs.Page.{IsPaged};
+ghost use Rattle.trace_replay.specs.Within.{AsksForPage, IsOfCut, cut_page};
 ghost use Rattle.trace_run.specs.Calls.{calls_of};
 ghost use Rattle.trace_run.specs.SetUp.{set_up_numbers};
 
-use crate::stores::{Ending, PLACES, StoredKey, blank};
+use crate::stores::StoredKey;
 use refusals::refusal::Refusal;
 use replay::call::{Answer, Call, Question};
+use replay::replay::Run;
 use std::alloc::{AllocError, Global};
 use store::version::Version;
 use trace::records::Record;
@@ -39,8 +41,7 @@ fn page_of<K: Drop>(answer: Option<Answer<K>>) -> Result<Vec<Version<K>>, Refusa
 fn page_question<K: StoredKey>(heap: Global, stamp: u64) -> Result<Vec<Question<K>>, AllocError>
     ensures { IfOk result (λ questions. AsksForPage stamp questions.items) }
 {
-    let mut rows = Vec::new(heap);
-    rows.resize(PLACES, blank(K::any()))?;
+    let rows = K::blank_rows(heap)?;
     let mut questions = Vec::with_capacity(heap, 1)?;
     questions.push(Question::Cut { stamp, rows })?;
     Ok(questions)
@@ -58,7 +59,12 @@ fn paged_by<K: StoredKey>(
         (map answer_numbers paged.answers.items) (shown (result_map (λ rows. rows.items) paged.page))) }
 {
     let questions = page_question(heap, stamp)?;
-    let mut answers = K::replay_calls(heap, setup, calls, Ending { closes, questions })?;
+    let run = Run {
+        calls,
+        closes,
+        questions,
+    };
+    let mut answers = K::replay_run(heap, setup, run)?;
     let page = page_of(answers.pop());
     Ok(Paged { answers, page })
 }

@@ -1,5 +1,5 @@
 -- What each record of a trace calls of the recorder.
-use Rattle.std.specs.Prelude.{ℕ, ℤ, List, Ok, Err, Result}
+use Rattle.std.specs.Prelude.{ℕ, ℤ, List, [], ◌∷◌, Ok, Err, Result}
 use Rattle.std.specs.Result.{result_ok}
 use Rattle.std.specs.List.{filter_map}
 use Rattle.clocks.specs.declared.sample.Sample.{Sample}
@@ -7,6 +7,7 @@ use Rattle.keys.specs.Making.{tag_of_bytes}
 use Rattle.keys.specs.declared.point.Point.{Point}
 use Rattle.keys.specs.declared.tag.Tag.{Tag}
 use Rattle.refusals.specs.Refusals.{result_map}
+use Rattle.replay.specs.Calls.{AnswerNumbers}
 use Rattle.replay.specs.declared.call.Call.{Call}
 use Rattle.replay.specs.declared.call.Call.TheVariants as call
 use Rattle.replay.specs.declared.call.Question.TheVariants as question
@@ -67,3 +68,9 @@ module _ {K : Type 0} (form : KeyForm K) where
   -- the calls of some records, in order
   abbrev pub calls_of : List Content → List (Call K)
   calls_of records = filter_map (λ m. result_ok (call_of m)) records
+
+-- the answers that are left behind a record with this call, or that was refused before: each call has one
+abbrev pub answers_left : {K : Type 0} → Result (Call K) ℕ → List (AnswerNumbers K) → List (AnswerNumbers K)
+answers_left (Err refusal) answers = answers
+answers_left (Ok c) [] = []
+answers_left (Ok c) (a ∷ answers) = answers

@@ -1,6 +1,6 @@
 use Rattle.std.proofs.Common.{◌≡◌, ◌+◌, ◌≤◌, drop, map}
 use Rattle.trace.specs.Contents.{content_of}
-use Rattle.sheet_lines.specs.Puts.{put_records}
+use Rattle.trace_history.specs.Puts.{put_records}
 use Rattle.sheet_lines.proofs.puts.put_among.Given as goal
 
 abbrev pub invariant-loop-record : goal.invariant-loop-record

@@ -4,7 +4,7 @@ use Rattle.trace_replay.proofs.page.page_question.Goals as goal
 
 pub returns : goal.returns
 returns g c = record {
-  rows = c.resize.new.self;
+  rows = c.in_ok-rows.rows;
   one = grind (arith, nat_tests);
-  enough = grind (arith, nat_tests);
+  enough = c.in_ok-rows.ensures;
 }

@@ -46,7 +46,7 @@ adds_one records m n trace after is same bytes fits =
     subst (λ records. AddsLine records trace after true) is (
       refl,
       bytes ∙ ap (λ (m : Content). trace ++ encoding_of m) same
-    ∙ ap (λ (t : List ℕ). trace ++ t) (sym (append-nil (encoding_of m))),
+          ∙ ap (λ (t : List ℕ). trace ++ t) (sym (append-nil (encoding_of m))),
       All-cons IsInRange m [] (subst IsInRange same fits) (All-nil IsInRange),
     )
 

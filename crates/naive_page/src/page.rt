@@ -97,7 +97,10 @@ impl Replayed {
             "bound: no stamp is more than {bound} ms ahead of its box's clock"
         )?;
         let (accepted, refused) = self.count_puts();
-        writeln!(text, "puts in the trace: {accepted} accepted, {refused} refused")
+        writeln!(
+            text,
+            "puts in the trace: {accepted} accepted, {refused} refused"
+        )
     }
 
     fn add_rows(&self, text: &mut String, heap: Global, code: u64) -> Result<(), AllocError> {
@@ -164,7 +167,10 @@ impl Replayed {
             )?;
             self.add_rows(text, heap, code)
         } else if code <= lowest {
-            writeln!(text, "final: no box can report at or below this stamp any more")?;
+            writeln!(
+                text,
+                "final: no box can report at or below this stamp any more"
+            )?;
             self.add_rows(text, heap, code)
         } else {
             self.add_late_boxes(text, code)

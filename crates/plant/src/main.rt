@@ -78,7 +78,8 @@ fn is_same_page(sheet: &str, other: &str) -> bool {
         let Some(other) = others.next() else {
             return false;
         };
-        let counts_puts = line.starts_with("puts in the trace: ") && other.starts_with("puts in the trace: ");
+        let counts_puts = line.starts_with("puts in the trace: ")
+            && other.starts_with("puts in the trace: ");
         if line != other && !counts_puts {
             return false;
         }

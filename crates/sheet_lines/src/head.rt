@@ -59,6 +59,9 @@ pub fn add_head(text: &mut String, setup: SetUp, puts: Puts, stamp: u64) -> Resu
     let Puts { accepted, refused } = puts;
     add_set_up(text, setup)?;
     add_bound(text, setup)?;
-    writeln!(text, "puts in the trace: {accepted} accepted, {refused} refused")?;
+    writeln!(
+        text,
+        "puts in the trace: {accepted} accepted, {refused} refused"
+    )?;
     writeln!(text, "page: {}", Code(stamp))
 }

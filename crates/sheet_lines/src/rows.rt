@@ -71,7 +71,10 @@ fn add_final(text: &mut String, closes: bool) -> Result<(), AllocError>
             "final: the recorder is closed, as asked, and no box will report any more"
         )
     } else {
-        writeln!(text, "final: no box can report at or below this stamp any more")
+        writeln!(
+            text,
+            "final: no box can report at or below this stamp any more"
+        )
     }
 }
 

@@ -13,7 +13,11 @@ fn later_stamp<K: Copy>(last: Stamp, event: &Event<K>, node: u8) -> Stamp
     ensures { stamp_of result
         ≡ (if «event».now.node == node then stamp_of «event».now.stamp else stamp_of last) }
 {
-    if event.node == node { event.stamp } else { last }
+    if event.node == node {
+        event.stamp
+    } else {
+        last
+    }
 }
 
 // The stamp of the node's last event, 0.0 if it has none.

@@ -110,11 +110,7 @@ impl StoredKey for Tag {
         rows_of(heap, blank(any_tag()))
     }
 
-    fn replay_run(
-        heap: Global,
-        setup: SetUp,
-        run: Run<Tag>,
-    ) -> Result<Vec<Answer<Tag>>, AllocError>
+    fn replay_run(heap: Global, setup: SetUp, run: Run<Tag>) -> Result<Vec<Answer<Tag>>, AllocError>
         ensures { IfOk result (λ answers. IsTraced tag_cmp (set_up_numbers setup)
             run.calls.items run.closes run.questions.items (map answer_numbers answers.items)) }
     {

@@ -76,7 +76,8 @@ module _ {K : Type 0} (order : K → K → Ordering) where
     pub sorted : IsSorted order contents.versions
 
   -- What came next is sound too, and a code that all had reached they have reached, with the same page.
-  pub record GoesOn (last : List Timestamp) (contents : Contents K) (next : List Timestamp) (contents_then : Contents K) : Type 0 where
+  pub record GoesOn (last : List Timestamp) (contents : Contents K) (next : List Timestamp)
+      (contents_then : Contents K) : Type 0 where
     pub sound : AreSound next contents_then
     pub reached : (code : ℕ) → HaveReached last code → HaveReached next code
     pub page : (code : ℕ) → HaveReached last code → page order contents_then.versions code ≡ page order contents.versions code

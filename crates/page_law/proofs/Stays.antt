@@ -13,12 +13,14 @@ use Rattle.recorder.specs.State.{State}
 use Rattle.stamper.specs.Stamps.{none_below}
 use Rattle.stamps.specs.Stamp.{Timestamp, code_of, zero_stamp}
 use Rattle.trace.specs.Contents.{Content}
+use Rattle.trace_history.specs.Source.{is_source}
 use Rattle.trace_replay.specs.Page.{is_final}
 use Rattle.trace_replay.specs.Traced.{first_state, last_state}
 use Rattle.trace_run.specs.Calls.{KeyForm, call_of, calls_of}
 use Rattle.trace_run.specs.SetUp.{SetUpNumbers}
 use Rattle.page_law.specs.Stays.{FinalPagesStay, IsStill}
 use Rattle.page_law.proofs.Finality.{below_one, fresh_stamp}
+use Rattle.page_law.proofs.Found.{stays_found}
 use Rattle.page_law.proofs.Onward.{HaveReached, IsSound, Onward, calls_on, end_behind}
 
 -- no stamp is below a code exactly if all have reached it
@@ -77,6 +79,7 @@ module _ {K : Type 0} (form : KeyForm K) (order : K → K → Ordering) (total :
         final = final_then closes;
         rows = goes_on.page stamp had;
         answer = rw (final_then closes, is) (ap Ok (goes_on.page stamp had));
+        found = λ v e there. stays_found form order setup.backstep later (is_source v) e 2 ms fresh there;
       }
 
 pub final_pages_stay : {K : Type 0} (form : KeyForm K) (order : K → K → Ordering) → IsTotalOrder order → IsKeyOrder order

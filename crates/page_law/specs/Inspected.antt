@@ -72,7 +72,7 @@ module _ {K : Type 0} (form : KeyForm K) (order : K → K → Ordering) (setup :
     abbrev pub IsFinal : Type 0
     IsFinal = is_final order setup (calls_of form ms) closes stamp ≡ true
 
-    -- A final page has the newest versions of all puts, those of later events too, and each row comes from one event.
+    -- A final page has the newest versions of all puts of the trace, and each row comes from one event.
     pub record IsRight : Type 0 where
       pub page : IsPage order (puts events) stamp rows
       pub from : (v : Version K) → IsIn v rows → (e : Numbered K) × IsFrom v e
@@ -97,12 +97,12 @@ module _ {K : Type 0} (form : KeyForm K) (order : K → K → Ordering) (setup :
       pub counted : length (puts events) ≤ put_records ms
       -- a page at any stamp is final exactly if that stamp is settled
       pub final : (at : ℕ) → IsFinal closes at ↔ IsSettled (history_setup setup) (history closes stamp) at
-      -- of an open recorder, it is not final exactly if a node holds it back
+      -- the page of an open recorder is not final exactly if a node holds it back
       pub held_back : is_final order setup (calls_of form ms) closes stamp ≡ false
           ↔ (closes ≡ false) × ((node : ℕ) × HoldsBack stamp node)
       -- what is final is right
       pub right : IsFinal closes stamp → IsRight closes stamp
-      -- whatever comes later, a page that is final of the open recorder stays as it is
+      -- a page that is final of the open recorder stays as it is, whatever comes later
       pub stays : PageStays form order setup ms stamp
       -- the newest stamp at which a page is final
       pub newest : IsNewestFinal (newest_final closes events setup.settings.nodes)

@@ -18,5 +18,5 @@ returns-clause-text g c =
 pub returns-clause-inspected : goal.returns-clause-inspected
 returns-clause-inspected g c =
     certain c.print.result
-    (pages_are_inspected g.K.TraceKey.form g.K.Ord.cmp (set_up_numbers c.args.setup) (map content_of c.args.records.now)
-    c.args.at.closed c.args.at.stamp _ _ c.in_ok-paged.ensures)
+    (pages_are_inspected g.K.TraceKey.form g.K.Ord.cmp g.met.K.Ord.total g.met.K.KeyKind.law (set_up_numbers c.args.setup)
+    (map content_of c.args.records.now) c.args.at.closed c.args.at.stamp _ _ c.in_ok-paged.ensures)

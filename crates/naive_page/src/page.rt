@@ -1,7 +1,7 @@
 // The sheet's lines.
 
 use crate::puts::{Put, page_of};
-use crate::replayed::{NoPage, Replay, Replayed, replay};
+use crate::replayed::{NoPage, Replay, Replayed};
 use naive::answers::Answer;
 use naive::stamp_rules::Stamp;
 use naive_format::records::{Key, Record};
@@ -190,16 +190,4 @@ pub fn add_page_of(
         Ok(replayed) => replayed.add_sheet(text, heap, stamp, closed),
         Err(no_page) => add_no_page(text, *no_page),
     }
-}
-
-// Adds the sheet of a trace at a stamp's code, or the one line that stands in its place where there is no page.
-pub fn add_page(
-    text: &mut String,
-    heap: Global,
-    trace: &[u8],
-    stamp: Option<u64>,
-    closed: bool,
-) -> Result<(), AllocError> {
-    let replay = replay(heap, trace)?;
-    add_page_of(text, heap, &replay, stamp, closed)
 }

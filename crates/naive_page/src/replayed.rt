@@ -79,7 +79,7 @@ fn add_records(
     }
 }
 
-pub fn replay(heap: Global, trace: &[u8]) -> Result<Replay, AllocError> {
+pub fn replay_of(heap: Global, trace: &[u8]) -> Result<Replay, AllocError> {
     if trace.len() > LONGEST {
         return Ok(Err(NoPage::TooLong));
     }

@@ -2,7 +2,7 @@
 
 use made_traces::traces::write_trace;
 use naive_page::page::add_page_of;
-use naive_page::replayed::{Replay, replay};
+use naive_page::replayed::{Replay, replay_of};
 use page_requests::requests::requests_of;
 use partings::{Parting, digits_of, first_parting};
 use sheet::request::Request;
@@ -63,7 +63,7 @@ impl PageComparison {
     pub fn wrong_example(&mut self) -> Result<Option<&'static str>, AllocError> {
         for example in SHEETS {
             write_bytes(&mut self.trace, example.trace)?;
-            let replay = replay(self.heap, &self.trace)?;
+            let replay = replay_of(self.heap, &self.trace)?;
             let request = Request {
                 stamp: example.stamp,
                 closed: example.closed,
@@ -77,7 +77,7 @@ impl PageComparison {
 
     // Whether all that is asked for of the trace that stands here is the same.
     fn agrees_on_all(&mut self, turn: usize) -> Result<bool, AllocError> {
-        let replay = replay(self.heap, &self.trace)?;
+        let replay = replay_of(self.heap, &self.trace)?;
         for request in &requests_of(self.heap, &replay, turn)? {
             if !self.agrees(&replay, *request)? {
                 return Ok(false);

@@ -9,7 +9,7 @@ use std::{env, io};
 
 // The arguments, if each is a text.
 fn words(rt: &(impl Env + AllocGlobal)) -> io::Result<Vec<String>> {
-    env::args(rt)?.skip(1).collect(rt.alloc())
+    Ok(env::args(rt)?.skip(1).collect(rt.alloc())?)
 }
 
 fn main(rt: HostRuntime) -> io::Result<ExitCode> {

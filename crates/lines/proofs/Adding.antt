@@ -1,8 +1,9 @@
 -- Bytes that are added one after another.
 use Rattle.std.proofs.Common.{◌≡◌, ℕ, ◌+◌, ◌≤◌, true, if◌then◌else◌, List, ◌++◌, length, is_ok, is_err, Ok, Err, string_bytes}
-use Rattle.std.proofs.Common.{string_len, string_capacity, Result, String, append_assoc, arith}
+use Rattle.std.proofs.Common.{string_len, string_capacity, Result, String, refl, sym, ap, ◌∙◌, subst, append_assoc, arith, length-append}
 use Rattle.std.specs.Io.{StartsWith}
 use Rattle.std.proofs.Transfers.{starts_with_of_append, starts_with_trans}
+use Rattle.std.proofs.lemmas.Bool.{false≢true}
 use Rattle.std.proofs.lemmas.Grind.{common_steps}
 use Rattle.lines.specs.Adding.{Adds, AddsInRoom}
 
@@ -14,6 +15,44 @@ pub pushes : {Z X E : Type 0} {was after : String Z} {bytes : List ℕ} (r : Res
 pushes {was = was} {after = after} {bytes = bytes} r b c s =
     let adds : Adds was after bytes r = grind (arith, common_steps) in
     record { adds = adds; room = grind (arith, common_steps) }
+
+-- a second addition behind one that succeeded
+pub more : {Z X Y E F : Type 0} {was mid after : String Z} (xs ys : List ℕ) {x : X} {q : Result Y F}
+    → AddsInRoom {E = E} was mid xs (Ok x) → AddsInRoom mid after ys q → AddsInRoom was after (xs ++ ys) q
+more {was = was} {mid = mid} {after = after} xs ys a b =
+    let joined = ap (λ (t : List ℕ). t ++ ys) (a.adds.text refl) ∙ append_assoc (string_bytes was) xs ys in
+    record {
+      adds = record {
+        text = λ e. b.adds.text e ∙ joined;
+        kept = starts_with_trans (string_bytes after) (string_bytes mid) (string_bytes was) b.adds.kept a.adds.kept;
+        part = subst (λ (t : List ℕ). StartsWith t (string_bytes after)) joined b.adds.part;
+        capacity = omega (arith, a.adds.capacity, b.adds.capacity);
+      };
+      room = λ h. b.room (omega (arith, ap length (a.adds.text refl), length-append (string_bytes was) xs, length-append xs ys, a.adds.capacity));
+    }
+
+-- an addition that failed, of which the bytes were the first part
+pub halted : {Z X Y E F : Type 0} {was mid : String Z} (xs ys : List ℕ) {e : E} (q : Result Y F)
+    → AddsInRoom {X = X} was mid xs (Err e) → is_err q ≡ true → AddsInRoom was mid (xs ++ ys) q
+halted xs ys (Ok y) a i = absurd (false≢true i)
+halted {was = was} {mid = mid} xs ys (Err f) a i =
+    let all = string_bytes was ++ (xs ++ ys) in
+    let first = string_bytes was ++ xs in
+    record {
+      adds = record {
+        text = λ e. absurd (false≢true e);
+        kept = a.adds.kept;
+        part = starts_with_trans all first (string_bytes mid)
+            (starts_with_of_append all first ys (sym (append_assoc (string_bytes was) xs ys))) a.adds.part;
+        capacity = a.adds.capacity;
+      };
+      room = λ h. absurd (false≢true (a.room (omega (arith, length-append xs ys))));
+    }
+
+-- an addition of the same bytes
+pub same_bytes : {Z X E : Type 0} (was after : String Z) (xs ys : List ℕ) (r : Result X E) → xs ≡ ys
+    → AddsInRoom was after xs r → AddsInRoom was after ys r
+same_bytes was after xs ys r e a = subst (λ (t : List ℕ). AddsInRoom was after t r) e a
 
 -- a text on the way from `was` to what it is with `all` added: it is `mid`, and `todo` is to come
 pub record OnTheWay {Z : Type 0} (was mid : String Z) (all todo : List ℕ) : Type 0 where

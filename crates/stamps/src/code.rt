@@ -2,7 +2,7 @@
 // that has no stamp is no refusal, and `TryFrom` would want an error for it.
 ghost use Rattle.std.specs.Prelude.{◌≡◌, ◌==◌, IfSome, Some};
 ghost use Rattle.std.specs.Option.{option_map};
-ghost use Rattle.std.specs.Ordering.{nat_cmp};
+ghost use Rattle.std.specs.Ordering.{nat_cmp, on};
 ghost use Rattle.stamps.specs.declared.stamp.Stamp.{Stamp};
 ghost use Rattle.stamps.specs.Stamp.{stamp_code, stamp_of, stamp_with_code, zero_stamp};
 
@@ -30,6 +30,7 @@ impl Stamp {
         ensures order { (other : Stamp) → ⟦<Stamp as Ord>⟧.cmp self other ≡ nat_cmp result (stamp_code other) }
         ensures partial_order { (other : Stamp) → ⟦<Stamp as PartialOrd>⟧.partial_cmp self other
             ≡ Some (nat_cmp result (stamp_code other)) }
+        ensures codes_order { ⟦<Stamp as Ord>⟧.cmp ≡ on stamp_code nat_cmp }
     {
         self.time * COUNTERS + u64::from(self.counter)
     }

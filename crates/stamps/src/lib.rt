@@ -3,6 +3,7 @@
 
 pub mod code;
 pub mod lead;
+pub mod order;
 pub mod rules;
 pub mod stamp;
 pub mod stamped;

@@ -6,7 +6,7 @@ use std::fmt;
 
 // A time, which is a reading, and a counter; or 0.0, the last stamp of a node that has none. The rules take
 // 0.0 as any last stamp and give it a code, so it is a stamp and not the want of one.
-#[derive(Clone, Copy, PartialEq, Eq, PartialOrd, Ord, Debug)]
+#[derive(Clone, Copy, Debug)]
 pub struct Stamp {
     pub(crate) time: u64,
     pub(crate) counter: u16,

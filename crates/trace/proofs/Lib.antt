@@ -1,4 +1,5 @@
 pub mod Numbers
+pub mod Longest
 pub mod Over
 pub mod Parsing
 pub mod Reading

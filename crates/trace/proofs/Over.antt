@@ -1,4 +1,4 @@
--- A list written over another: what is known of `overlay`. The writer, which writes once, needs none of it.
+-- A list written over another: what is known of `overlay`.
 use Rattle.std.proofs.Common.{◌≡◌, ℕ, ◌+◌, ◌≤◌, List, ◌++◌, length, take, drop, sym, ap, ◌∙◌, append_assoc, add_assoc, arith}
 use Rattle.std.proofs.Common.{length-append, drop-drop, take_at}
 use lib.Seq.{drop-append-add}
